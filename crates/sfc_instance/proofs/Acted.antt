@@ -78,20 +78,18 @@ module _ (plant : PlantData) (p : ProgId) (life : Life) (t : ℤ) (a : ℕ) (com
       → Ends answer (after_body plant p (tried ++ committed) id body env) ((left_by plant p (effect body env).environment ++ tried) ++ committed)
   ends_so id body env answer is = by answer (effect body env).result is
     where
-      abbrev rest : Unit {0} → Result (List Change) PlacedFault
-      rest u = Ok (left_by plant p (effect body env).environment ++ (tried ++ committed))
-
       by : (answer : Option Told) (r : Result (Unit {0}) Fault) → IsTellingOf id (statements_done body env) answer r
-          → Ends answer (and_then (in_body id (statements_done body env) r) rest) ((left_by plant p (effect body env).environment ++ tried) ++ committed)
+          → Ends answer (and_then (in_body id (statements_done body env) r)
+          (λ (u : Unit {0}). Ok (left_by plant p (effect body env).environment ++ (tried ++ committed)))) ((left_by plant p (effect body env).environment ++ tried) ++ committed)
       by None (Ok u) e = ap (λ (changes : List Change). Ok changes) (sym (append_assoc (left_by plant p (effect body env).environment) tried committed))
       by None (Err f) e = absurd cc
       by (Some (Kind f)) (Ok u) e = absurd cc
       by (Some (Kind f)) (Err g) e =
           let same : g ≡ f = cc in
-          (record { fault = fault.Expression g; place = place.Statement id (statements_done body env) }, (refl, ap (λ x. fault.Expression x) same))
+          (record { fault = fault.Expression g; place = place.Statement id (statements_done body env) }, refl, ap (λ x. fault.Expression x) same)
       by (Some (Place there)) (Ok u) e = absurd (let bad : false ≡ true = e.0 in cc)
       by (Some (Place there)) (Err g) e =
-          (record { fault = fault.Expression g; place = place.Statement id (statements_done body env) }, (refl, e.1))
+          (record { fault = fault.Expression g; place = place.Statement id (statements_done body env) }, refl, e.1)
 
   -- a declared action whose body is executed
   pub body_acted : (id : ActionId) (answer : Option Told) (body : Body) (moment' : Moment)
@@ -176,10 +174,10 @@ module _ (plant : PlantData) (p : ProgId) (life : Life) (t : ℤ) (committed : L
       agrees = h.agrees;
       ends = (
         h.ends.0,
-        (sym so
+        sym so
             ∙ ap (λ (ts : List Target). after_actions plant p life t i ts changes) (split targets i target lt is)
-            ∙ ap (λ (r : Result (List Change) PlacedFault). and_then r (λ after. after_actions plant p life t (suc i) (drop (i + 1) targets) after)) h.ends.1.0,
-          h.ends.1.1),
+            ∙ ap (λ (r : Result (List Change) PlacedFault). and_then r (λ after. after_actions plant p life t (suc i) (drop (i + 1) targets) after)) h.ends.1,
+        h.ends.2,
       );
     }
 

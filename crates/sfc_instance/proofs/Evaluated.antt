@@ -50,15 +50,15 @@ pub ok_inside : (tr : TransitionId) (r : Result Bool Fault) (x : Bool) → Ok x 
 ok_inside tr (Ok y) x e = cc
 ok_inside tr (Err f) x e = absurd cc
 
+same_error : (r : Result Bool TransitionFault) (x y : TransitionFault) → r ≡ Err x → r ≡ Err y → x ≡ y
+same_error r x y e g = cc
+
 pub err_inside : (tr : TransitionId) (r : Result Bool Fault) (f : TransitionFault) → Err f ≡ at_transition tr r
     → (Err f.fault ≡ r) × (f ≡ record { transition = tr; fault = f.fault })
 err_inside tr (Ok y) f e = absurd cc
 err_inside tr (Err g) f e =
-    let same : f ≡ record { transition = tr; fault = g } = same_error f (record { transition = tr; fault = g }) e in
-    (ap (λ (x : TransitionFault). Err x.fault) same, (λ k. record { transition = (same k).transition; fault = f.fault }))
-  where
-    same_error : (x y : TransitionFault) → Err x ≡ Err y → x ≡ y
-    same_error x y e = cc
+    let same : f ≡ record { transition = tr; fault = g } = same_error (Err f) f (record { transition = tr; fault = g }) refl e in
+    (ap (λ (x : TransitionFault). Err x.fault) same, same ∙ (λ k. record { transition = tr; fault = (sym same k).fault }))
 
 module _ (ranked : List TransitionId) (i : ℕ) (tr : TransitionId) (lt : i < length ranked) (is : tr ≡ get_or ranked i tr) where
   split : drop i ranked ≡ tr ∷ drop (i + 1) ranked

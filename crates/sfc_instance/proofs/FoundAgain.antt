@@ -56,8 +56,8 @@ module _ (tables : Tabled) (chart : Chart) (env : Environment) (life : Life) whe
 
 -- ---- bodies
 
-same_error : {A : Type 0} (x y : PlacedFault) → Err {A} {PlacedFault} x ≡ Err y → x ≡ y
-same_error x y e = cc
+same_error : (r : Result (List Change) PlacedFault) (x y : PlacedFault) → r ≡ Err x → r ≡ Err y → x ≡ y
+same_error r x y e g = cc
 
 module _ (plant : PlantData) (p : ProgId) (life : Life) (t : ℤ) where
   -- a body among these, of which the first is that of action `from`
@@ -77,37 +77,35 @@ module _ (plant : PlantData) (p : ProgId) (life : Life) (t : ℤ) where
         place = place.Statement id (statements_done (body_of plant p id) (body_environment plant p life before t a));
       } ≡ stop
 
+  executed_first : (from : ℕ) (id : ActionId) (targets : List Target) (changes : List Change) (stop : PlacedFault) (b : Bool)
+      (r : Result (Unit {0}) Fault) → is_executed plant p life from ≡ b
+      → (effect (body_of plant p id) (body_environment plant p life changes t from)).result ≡ r
+      → cond b (and_then (in_body id (statements_done (body_of plant p id) (body_environment plant p life changes t from)) r)
+      (λ (u : Unit {0}). Ok (left_by plant p (effect (body_of plant p id) (body_environment plant p life changes t from)).environment ++ changes)))
+      (Ok changes) ≡ Err stop
+      → IsAmong from (Declared id ∷ targets) changes stop
+  executed_first from id targets changes stop false r on is e = absurd cc
+  executed_first from id targets changes stop true (Ok u) on is e = absurd cc
+  executed_first from id targets changes stop true (Err f) on is e = record {
+    n = 0;
+    a = from;
+    number = omega arith;
+    id = id;
+    before = changes;
+    f = f;
+    action = refl;
+    earlier = refl;
+    executed = on;
+    ends = is;
+    is = same_error _ _ stop refl e;
+  }
+
   among_first : (from : ℕ) (target : Target) (targets : List Target) (changes : List Change) (stop : PlacedFault)
       → acted plant p life t from target changes ≡ Err stop → IsAmong from (target ∷ targets) changes stop
   among_first from (Boolean v) targets changes stop e = absurd cc
   among_first from (Declared id) targets changes stop e =
-      by (is_executed plant p life from) (effect body env).result refl refl e
-    where
-      abbrev body : Body
-      body = body_of plant p id
-
-      abbrev env : Environment
-      env = body_environment plant p life changes t from
-
-      by : (b : Bool) (r : Result (Unit {0}) Fault) → is_executed plant p life from ≡ b → (effect body env).result ≡ r
-          → cond b (and_then (in_body id (statements_done body env) r)
-          (λ (u : Unit {0}). Ok (left_by plant p (effect body env).environment ++ changes))) (Ok changes) ≡ Err stop
-          → IsAmong from (Declared id ∷ targets) changes stop
-      by false r on is e = absurd cc
-      by true (Ok u) on is e = absurd cc
-      by true (Err f) on is e = record {
-        n = 0;
-        a = from;
-        number = omega arith;
-        id = id;
-        before = changes;
-        f = f;
-        action = refl;
-        earlier = refl;
-        executed = on;
-        ends = is;
-        is = same_error _ stop e;
-      }
+      executed_first from id targets changes stop (is_executed plant p life from)
+      (effect (body_of plant p id) (body_environment plant p life changes t from)).result refl refl e
 
   among_by : (from : ℕ) (target : Target) (targets : List Target) (changes : List Change) (stop : PlacedFault)
       (r : Result (List Change) PlacedFault) → acted plant p life t from target changes ≡ r
@@ -141,13 +139,13 @@ module _ (plant : PlantData) (p : ProgId) (life : Life) (t : ℤ) where
 
   in_body_of : (changes : List Change) (stop : PlacedFault)
       → after_actions plant p life t 0 (tables_of (chart_of plant p)).actions changes ≡ Err stop
-      → (id : ActionId) × ((k : ℕ) × ((stop.place ≡ place.Statement id k) × IsInBody plant p life changes t id k stop.fault))
+      → (id : ActionId) × (k : ℕ) × (stop.place ≡ place.Statement id k) × IsInBody plant p life changes t id k stop.fault
   in_body_of changes stop e =
       let one = among 0 (tables_of (chart_of plant p)).actions changes stop e in
       let body = body_of plant p one.id in
       let env = body_environment plant p life one.before t one.a in
       let same : one.n ≡ one.a = (let number = one.number in omega (arith, number)) in
-      (one.id, (statements_done body env, (ap (λ (s : PlacedFault). s.place) (sym one.is), record {
+      (one.id, statements_done body env, ap (λ (s : PlacedFault). s.place) (sym one.is), record {
         a = one.a;
         before = one.before;
         action = ap (λ (n : ℕ). slice_get (tables_of (chart_of plant p)).actions n) (sym same) ∙ one.action;
@@ -156,7 +154,7 @@ module _ (plant : PlantData) (p : ProgId) (life : Life) (t : ℤ) where
         there = ap (λ (r : Result (Unit {0}) Fault). after_done r (statements_done body env)) one.ends;
         ends = ap (λ (r : Result (Unit {0}) Fault). option_map (λ f. fault.Expression f) (result_err r)) one.ends
             ∙ ap (λ (s : PlacedFault). Some s.fault) one.is;
-      })))
+      })
 
 -- ---- a scan
 
@@ -176,14 +174,14 @@ module _ (plant : PlantData) (p : ProgId) (life : Life) (changes : List Change) 
   found_in_body : after_actions plant p (row ∷ life) t 0 tables.actions changes ≡ Err stop → Found stop
   found_in_body e =
       let one = in_body_of plant p (row ∷ life) t changes stop e in
-      subst (λ there. IsFoundAt plant p life changes t there stop.fault) (sym one.1.1.0) one.1.1.1
+      subst (λ there. IsFoundAt plant p life changes t there stop.fault) (sym one.2) one.3
 
   found_behind : with_row plant p life changes t row ≡ Err stop → Found stop
   found_behind e = by (control.first_fault tables (control_scans tables (row ∷ life))) refl e where
     by : (o : Option ActionFault) → control.first_fault tables (control_scans tables (row ∷ life)) ≡ o
         → unless (of_control o) (after_actions plant p (row ∷ life) t 0 tables.actions changes) ≡ Err stop → Found stop
     by None is e = found_in_body e
-    by (Some f) is e = subst Found (same_error (record { fault = fault.Control f.fault; place = place.Action f.action }) stop e)
+    by (Some f) is e = subst Found (same_error _ (record { fault = fault.Control f.fault; place = place.Action f.action }) stop refl e)
         (ap (option_map (λ c. fault.Control c))
         (first_of (λ a. control.fault_of tables a (control_scans tables (row ∷ life))) tables.associations f is))
 
@@ -192,7 +190,7 @@ module _ (plant : PlantData) (p : ProgId) (life : Life) (changes : List Change) 
     by : (o : Option TransitionFault) → condition_fault tables (chart_of plant p) env life tables.ranked ≡ o
         → unless (of_condition o) (with_row plant p life changes t row) ≡ Err stop → Found stop
     by None is e = found_behind e
-    by (Some f) is e = subst Found (same_error (record { fault = fault.Expression f.fault; place = place.Transition f.transition }) stop e)
+    by (Some f) is e = subst Found (same_error _ (record { fault = fault.Expression f.fault; place = place.Transition f.transition }) stop refl e)
         (ap (option_map (λ c. fault.Expression c)) (condition_of tables (chart_of plant p) env life tables.ranked f is))
 
 -- ---- what stands
@@ -213,14 +211,15 @@ module _ (plant : PlantData) (p : ProgId) (instance_state : InstanceState) (chan
   -- where none stood before, it is found there
   pub stands_found : (o : Option ScanFault) → o ≡ None → (f : ScanFault)
       → (unless_faulted plant p instance_state changes t o).instance_state.fault ≡ Some f
-      → (there : FaultPlace) × (((unless_faulted plant p instance_state changes t o).instance_state.place ≡ Some there)
-      × IsFoundAt plant p instance_state.life changes t there f)
+      → (there : FaultPlace) × ((unless_faulted plant p instance_state changes t o).instance_state.place ≡ Some there)
+      × IsFoundAt plant p instance_state.life changes t there f
   stands_found (Some g) none f e = absurd cc
   stands_found None none f e = by (attempt plant p instance_state.life changes t) refl e where
     by : (r : Result (List Change) PlacedFault) → attempt plant p instance_state.life changes t ≡ r
         → (after_attempt instance_state.life changes (next_row plant p instance_state.life changes t) r).instance_state.fault ≡ Some f
-        → (there : FaultPlace) × (((after_attempt instance_state.life changes (next_row plant p instance_state.life changes t) r).instance_state.place ≡ Some there)
-        × IsFoundAt plant p instance_state.life changes t there f)
+        → (there : FaultPlace)
+        × ((after_attempt instance_state.life changes (next_row plant p instance_state.life changes t) r).instance_state.place ≡ Some there)
+        × IsFoundAt plant p instance_state.life changes t there f
     by (Ok done) is e = absurd cc
-    by (Err stop) is e = (stop.place, (refl, subst (λ x. IsFoundAt plant p instance_state.life changes t stop.place x) (same_some stop.fault f e)
-        (found plant p instance_state.life changes t stop is)))
+    by (Err stop) is e = (stop.place, refl, subst (λ x. IsFoundAt plant p instance_state.life changes t stop.place x) (same_some stop.fault f e)
+        (found plant p instance_state.life changes t stop is))

@@ -26,14 +26,14 @@ module _ (plant : PlantData) (changes : List Change) (mid image : Image) (wanted
       → HasActed plant changes image answer wanted
   unfolding HasActed
   closed (Ok u) acts keep give = (acts.tried ++ changes, acts.ends, keep refl acts.tried acts.agrees)
-  closed (Err f) acts keep give = (acts.ends.0, (acts.ends.1.0, (acts.ends.1.1, give refl acts.tried acts.agrees)))
+  closed (Err f) acts keep give = (acts.ends.0, acts.ends.1, acts.ends.2, give refl acts.tried acts.agrees)
 
 -- and one that is given up, where the place of a fault was looked for
 pub placed : (plant : PlantData) (changes : List Change) (image : Image) (wanted : Result (List Change) PlacedFault) (place : Option FaultPlace)
     → Acts plant changes image (place_in place) wanted → place ≡ place_of wanted
 placed plant changes image wanted None acts = sym (ap place_of acts.ends)
 placed plant changes image wanted (Some there) acts =
-    ap (λ (x : FaultPlace). Some x) (sym acts.ends.1.1) ∙ sym (ap place_of acts.ends.1.0)
+    ap (λ (x : FaultPlace). Some x) (sym acts.ends.2) ∙ sym (ap place_of acts.ends.1)
 
 -- where the fault of the actions is, which is kept
 pub kept_so : (plant : PlantData) (changes : List Change) (image : Image) (wanted : Result (List Change) PlacedFault)
@@ -44,13 +44,13 @@ unfolding HasActed HasActedSo
 kept_so plant changes image wanted (Ok u) place acted there = acted
 kept_so plant changes image wanted (Err f) place acted there =
     let stop = acted.0 in
-    let kind = acted.1.1.0 in (
+    let kind = acted.2 in (
       record {
         there = stop.place;
-        kept = there refl ∙ ap place_of acted.1.0;
-        fault = acted.1.0 ∙ (λ i. Err (record { fault = kind i; place = stop.place }));
+        kept = there refl ∙ ap place_of acted.1;
+        fault = acted.1 ∙ (λ i. Err (record { fault = kind i; place = stop.place }));
       },
-      acted.1.1.1,
+      acted.3,
     )
 
 -- after a fault the image is what it was
@@ -59,7 +59,7 @@ module _ (plant : PlantData) (changes : List Change) (image : Image) where
       → is_err answer ≡ true → ImageAgrees plant image (settled changes)
   unfolding HasActed
   given_up (Ok u) wanted acted on = absurd (let bad : false ≡ true = on in cc)
-  given_up (Err f) wanted acted on = acted.1.1.1
+  given_up (Err f) wanted acted on = acted.3
 
   -- and so is another one then
   pub left_there : (other : Image) (answer : Result (Unit {0}) Fault) (wanted : Result (List Change) PlacedFault)
@@ -67,4 +67,4 @@ module _ (plant : PlantData) (changes : List Change) (image : Image) where
       → HasActed plant changes other answer wanted
   unfolding HasActed
   left_there other (Ok u) wanted acted on h = absurd (let bad : false ≡ true = on in cc)
-  left_there other (Err f) wanted acted on h = (acted.0, (acted.1.0, (acted.1.1.0, h)))
+  left_there other (Err f) wanted acted on h = (acted.0, acted.1, acted.2, h)

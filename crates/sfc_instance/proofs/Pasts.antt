@@ -109,13 +109,10 @@ unless_same plant (Some f) r s same = refl
 body_done : (plant : PlantData) (p : ProgId) (c d : List Change) (id : ActionId) (body : Body) (env : Environment)
     → image_past plant c ≡ image_past plant d → SameDone plant (after_body plant p c id body env) (after_body plant p d id body env)
 body_done plant p c d id body env same = by (effect body env).result where
-  abbrev left : List Change
-  left = left_by plant p (effect body env).environment
-
   by : (r : Result (Unit {0}) Fault)
-      → SameDone plant (and_then (in_body id (statements_done body env) r) (λ (u : Unit {0}). Ok (left ++ c)))
-      (and_then (in_body id (statements_done body env) r) (λ (u : Unit {0}). Ok (left ++ d)))
-  by (Ok u) = image.past_cut plant c d left same
+      → SameDone plant (and_then (in_body id (statements_done body env) r) (λ (u : Unit {0}). Ok (left_by plant p (effect body env).environment ++ c)))
+      (and_then (in_body id (statements_done body env) r) (λ (u : Unit {0}). Ok (left_by plant p (effect body env).environment ++ d)))
+  by (Ok u) = image.past_cut plant c d (left_by plant p (effect body env).environment) same
   by (Err f) = refl
 
 -- ---- lives with the same pasts

@@ -66,7 +66,7 @@ module _ (plant : PlantData) (context : ProgramContext) (is : IsContextOf plant 
       (with_row plant p life changes t row)
   unfolding HasScanned
   control_ends row f state image e s h =
-      (record { there = place.Action f.action; kept = refl; fault = row_of_control row (Some f) e }, (s, h))
+      (record { there = place.Action f.action; kept = refl; fault = row_of_control row (Some f) e }, s, h)
 
   -- a body has a fault
   pub body_ends : (row : Row) (f : Fault) (answer : Result (Unit {0}) Fault) (old new : State) (image : Image) (place : Option FaultPlace)
@@ -79,7 +79,8 @@ module _ (plant : PlantData) (context : ProgramContext) (is : IsContextOf plant 
       let stays : new ≡ old = subst (λ (a : Result (Unit {0}) Fault). Moves context.tables.now (row ∷ life) a old new) is_err moves in
       let left = subst (λ (a : Result (Unit {0}) Fault). HasActedSo plant changes image a place (wanted row)) is_err acted in (
         record { there = left.0.there; kept = left.0.kept; fault = row_of_control row None e ∙ left.0.fault },
-        (subst (λ (x : State). StateAgrees context.tables.now x life) (sym stays) s, left.1),
+        subst (λ (x : State). StateAgrees context.tables.now x life) (sym stays) s,
+        left.1,
       )
 
   -- no fault ended it
@@ -115,7 +116,7 @@ module _ (plant : PlantData) (context : ProgramContext) (is : IsContextOf plant 
       (attempt plant p life changes t)
   unfolding HasScanned
   condition_ends row f state image e s h =
-      (record { there = place.Transition f.transition; kept = refl; fault = attempt_of_condition (Some f) e }, (s, h))
+      (record { there = place.Transition f.transition; kept = refl; fault = attempt_of_condition (Some f) e }, s, h)
 
   -- the conditions have none
   pub goes_on : (row : Row) (answer : Result (Unit {0}) ScanFault) (place : Option FaultPlace) (state : State) (image : Image)

@@ -45,10 +45,8 @@ ghost use Rattle.sfc_instance.specs.Private.Acting.{HasActedSo};
 ghost use Rattle.sfc_instance.specs.Private.Holding.{IsReady};
 ghost use Rattle.sfc_instance.specs.Private.Scanning.{HasScanned, Moves, go_work, row_in};
 
-use crate::conditions::TransitionFault;
 use crate::program_context::ProgramContext;
 use crate::scan_fault::ScanFault;
-use sfc_action::fault::ActionFault;
 use sfc_base::ticks::Ticks;
 use sfc_expr::fault::Fault;
 use sfc_image::image::Image;
@@ -133,11 +131,11 @@ impl ScanRun {
         self.spare
             .follow(self.moved, context.tables, &self.now, ticks);
         match self.now.advance(context.tables, &self.buffers, t, ticks) {
-            Err(ActionFault { action, fault }) => {
+            Err(fault) => {
                 std::mem::swap(&mut self.now, &mut self.spare);
                 self.moved = Moved::All;
-                self.place = Some(FaultPlace::Action(action));
-                Err(ScanFault::Control(fault))
+                self.place = Some(FaultPlace::Action(fault.action));
+                Err(ScanFault::Control(fault.fault))
             }
             Ok(moved) => {
                 self.moved = moved;
@@ -173,9 +171,9 @@ impl ScanRun {
         ensures ticks { Within (scan_work context.entry.tables.now context.entry.chart.now (variable_total image.old)) ticks.old ticks.new }
     {
         match self.buffers.read(context, &self.now, image, t, ticks) {
-            Err(TransitionFault { transition, fault }) => {
-                self.place = Some(FaultPlace::Transition(transition));
-                Err(ScanFault::Expression(fault))
+            Err(fault) => {
+                self.place = Some(FaultPlace::Transition(fault.transition));
+                Err(ScanFault::Expression(fault.fault))
             }
             Ok(()) => self.go_on(context, image, t, ticks),
         }

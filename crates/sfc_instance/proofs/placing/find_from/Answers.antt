@@ -58,7 +58,7 @@ loop-action-preserved c =
       agrees = λ plant life t committed tried after h.
           let b = before.agrees plant life t committed tried after h in
           acts_on plant c.args.acting.context.instance life t committed targets c.args.from i target c.find_in-place.new.image tried (b.tried ++ committed)
-          (place_in c.find_in-place.result) (place_told c.find_in-place.result ∙ sym c.is_some.ensures.value ∙ c.if-is_some.false) next.0 next.1 (made.agrees plant life t committed b.tried after b.agrees) b.rest;
+          (place_in c.find_in-place.result) (place_told c.find_in-place.result ∙ sym c.is_some.ensures ∙ c.if-is_some.false) next.0 next.1 (made.agrees plant life t committed b.tried after b.agrees) b.rest;
       from = omega (arith, before.from);
       rises = omega (arith, before.rises, made.ticks.0);
       ticks = omega (arith, work, made.ticks.1, before.ticks);
@@ -78,7 +78,7 @@ returns-then-is_some-clause-agrees c plant life t committed tried after h =
     let target = declared (i - first) in
     let b = c.loop-action.invariant.agrees plant life t committed tried after h in
     acts_end plant c.args.acting.context.instance life t committed targets c.args.from i target c.find_in-place.new.image tried (b.tried ++ committed)
-    (place_in c.find_in-place.result) (place_told c.find_in-place.result ∙ sym c.is_some.ensures.value ∙ c.if-is_some.true) next.0 next.1
+    (place_in c.find_in-place.result) (place_told c.find_in-place.result ∙ sym c.is_some.ensures ∙ c.if-is_some.true) next.0 next.1
     (c.find_in-place.ensures.agrees plant life t committed b.tried after b.agrees) b.rest
 
 pub returns-then-is_some-clause-ticks : goal.returns-then-is_some-clause-ticks

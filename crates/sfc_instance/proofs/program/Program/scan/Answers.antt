@@ -87,7 +87,7 @@ returns-in-Err-clause-program c plant instance_state changes context agrees h =
     c.scan.new.image c.scan.result c.scan.new.self.place (attempt plant p instance_state.life changes c.args.t) c.in-Err.fault c.in-Err.is scanned in
     let after = sym (ap (λ (a : After). a.instance_state) (after_fault plant p instance_state changes c.args.t on (record { fault = c.in-Err.fault; place = done.0.there }) done.0.fault)) in
     record {
-      now = subst (λ (s : InstanceState). StateAgrees tables c.scan.new.self.now s.life) after done.1.0;
+      now = subst (λ (s : InstanceState). StateAgrees tables c.scan.new.self.now s.life) after done.1;
       fresh = agrees.fresh;
       scans = agrees.scans ∙ ap scan_count after;
       at = agrees.at ∙ ap (λ (s : InstanceState). latest_instant s.life) after;
@@ -107,4 +107,4 @@ returns-in-Err-clause-image c plant instance_state changes context agrees h =
     let done = scan_faulted plant tables instance_state.life changes (next_row plant p instance_state.life changes c.args.t) c.scan.new.self.now
     c.scan.new.image c.scan.result c.scan.new.self.place (attempt plant p instance_state.life changes c.args.t) c.in-Err.fault c.in-Err.is scanned in
     subst (λ (a : After). ImageAgrees plant c.scan.new.image (settled a.changes))
-    (sym (after_fault plant p instance_state changes c.args.t on (record { fault = c.in-Err.fault; place = done.0.there }) done.0.fault)) done.1.1
+    (sym (after_fault plant p instance_state changes c.args.t on (record { fault = c.in-Err.fault; place = done.0.there }) done.0.fault)) done.2

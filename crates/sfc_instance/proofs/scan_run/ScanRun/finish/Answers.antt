@@ -22,10 +22,10 @@ returns-then-is_err-clause-agrees c plant life changes context state h =
     simp (to_z-of_z, c.ranges.t) at (c.act_or_undo-answer.ensures.agrees plant life changes context state h) in
     let on = sym c.is_err.ensures.value ∙ c.if-is_err.true in
     let before = given_up plant changes c.act_or_undo-answer.new.image c.act_or_undo-answer.result _ acted on in
-    kept_so plant changes c.find_place.new.image _ c.act_or_undo-answer.result c.find_place.result
-    (left_there plant changes c.act_or_undo-answer.new.image c.find_place.new.image c.act_or_undo-answer.result _ acted on
-    (c.find_place.ensures.unchanged plant life changes context state before))
-    (λ _. simp (to_z-of_z, c.ranges.t) at (c.find_place.ensures.place plant life changes context state before))
+    kept_so plant changes c.find_place-self.new.image _ c.act_or_undo-answer.result c.find_place-self.result
+    (left_there plant changes c.act_or_undo-answer.new.image c.find_place-self.new.image c.act_or_undo-answer.result _ acted on
+    (c.find_place-self.ensures.unchanged plant life changes context state before))
+    (λ _. simp (to_z-of_z, c.ranges.t) at (c.find_place-self.ensures.place plant life changes context state before))
 
 pub returns-else-is_err-clause-agrees : goal.returns-else-is_err-clause-agrees
 returns-else-is_err-clause-agrees c plant life changes context state h =

@@ -16,8 +16,7 @@ returns-in-Err-clause-agrees c plant life changes context state h =
     let agreed = c.follow.ensures.agrees life state in
     let fault_is : result_err c.advance.result ≡ control.first_fault tables (control_scans tables (row ∷ life)) =
     simp (to_z-of_z, c.ranges.t) at (c.advance.ensures.fault life state) in
-    control_ends plant c.args.context context life changes c.args.t row (record { action = c.in-Err.action; fault = c.in-Err.fault }) c.swap.new.x
-    c.args.image.now
+    control_ends plant c.args.context context life changes c.args.t row c.in-Err.fault c.swap.new.x c.args.image.now
     (ap result_err (sym c.in-Err.is) ∙ fault_is) (subst (λ (x : State). StateAgrees tables x life) (sym c.swap.ensures.x_after) agreed) h
 
 pub returns-in-Err-finish-clause-agrees : goal.returns-in-Err-finish-clause-agrees

@@ -15,8 +15,8 @@ returns-in-Err-clause-agrees c plant life changes context state h =
     c.read.ensures.fault plant life changes context state h
     ∙ ap (λ (x : ℤ). condition_fault tables c.args.context.chart.now (environment plant c.args.context.instance life changes x false) life tables.ranked)
     (to_z-of_z c.ranges.t) in
-    condition_ends plant c.args.context context life changes c.args.t (next_row plant c.args.context.instance life changes c.args.t)
-    (record { transition = c.in-Err.transition; fault = c.in-Err.fault }) c.args.self.now.now c.args.image.now (ap result_err (sym c.in-Err.is) ∙ fault_is) state h
+    condition_ends plant c.args.context context life changes c.args.t (next_row plant c.args.context.instance life changes c.args.t) c.in-Err.fault
+    c.args.self.now.now c.args.image.now (ap result_err (sym c.in-Err.is) ∙ fault_is) state h
 
 pub returns-in-Ok-clause-agrees : goal.returns-in-Ok-clause-agrees
 returns-in-Ok-clause-agrees c plant life changes context state h =
