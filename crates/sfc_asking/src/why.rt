@@ -240,11 +240,7 @@ fn append_block_place(
 }
 
 // Where a fault is.
-fn append_place(
-    out: &mut Vec<u8>,
-    asked: &Asked<'_>,
-    place: FaultPlace,
-) -> Result<(), AllocError> {
+fn append_place(out: &mut Vec<u8>, asked: &Asked<'_>, place: FaultPlace) -> Result<(), AllocError> {
     match place {
         FaultPlace::Transition(transition) => append_condition_place(out, asked, transition),
         FaultPlace::Action(action) => append_block_place(out, asked, action),
