@@ -73,9 +73,9 @@ module _ (plant : PlantData) (p : ProgId) (life : Life) (t : ℤ) where
     executed : is_executed plant p life a ≡ true
     ends : (effect (body_of plant p id) (body_environment plant p life before t a)).result ≡ Err f
     is : record {
-        fault = fault.Expression f;
-        place = place.Statement id (statements_done (body_of plant p id) (body_environment plant p life before t a));
-      } ≡ stop
+      fault = fault.Expression f;
+      place = place.Statement id (statements_done (body_of plant p id) (body_environment plant p life before t a));
+    } ≡ stop
 
   executed_first : (from : ℕ) (id : ActionId) (targets : List Target) (changes : List Change) (stop : PlacedFault) (b : Bool)
       (r : Result (Unit {0}) Fault) → is_executed plant p life from ≡ b
@@ -144,17 +144,21 @@ module _ (plant : PlantData) (p : ProgId) (life : Life) (t : ℤ) where
       let one = among 0 (tables_of (chart_of plant p)).actions changes stop e in
       let body = body_of plant p one.id in
       let env = body_environment plant p life one.before t one.a in
-      let same : one.n ≡ one.a = (let number = one.number in omega (arith, number)) in
-      (one.id, statements_done body env, ap (λ (s : PlacedFault). s.place) (sym one.is), record {
-        a = one.a;
-        before = one.before;
-        action = ap (λ (n : ℕ). slice_get (tables_of (chart_of plant p)).actions n) (sym same) ∙ one.action;
-        earlier = ap (λ (n : ℕ). after_actions plant p life t 0 (take n (tables_of (chart_of plant p)).actions) changes) (sym same) ∙ one.earlier;
-        executed = one.executed;
-        there = ap (λ (r : Result (Unit {0}) Fault). after_done r (statements_done body env)) one.ends;
-        ends = ap (λ (r : Result (Unit {0}) Fault). option_map (λ f. fault.Expression f) (result_err r)) one.ends
-            ∙ ap (λ (s : PlacedFault). Some s.fault) one.is;
-      })
+      let same : one.n ≡ one.a = (let number = one.number in omega (arith, number)) in (
+        one.id,
+        statements_done body env,
+        ap (λ (s : PlacedFault). s.place) (sym one.is),
+        record {
+          a = one.a;
+          before = one.before;
+          action = ap (λ (n : ℕ). slice_get (tables_of (chart_of plant p)).actions n) (sym same) ∙ one.action;
+          earlier = ap (λ (n : ℕ). after_actions plant p life t 0 (take n (tables_of (chart_of plant p)).actions) changes) (sym same) ∙ one.earlier;
+          executed = one.executed;
+          there = ap (λ (r : Result (Unit {0}) Fault). after_done r (statements_done body env)) one.ends;
+          ends = ap (λ (r : Result (Unit {0}) Fault). option_map (λ f. fault.Expression f) (result_err r)) one.ends
+              ∙ ap (λ (s : PlacedFault). Some s.fault) one.is;
+        },
+      )
 
 -- ---- a scan
 
@@ -221,5 +225,9 @@ module _ (plant : PlantData) (p : ProgId) (instance_state : InstanceState) (chan
         × ((after_attempt instance_state.life changes (next_row plant p instance_state.life changes t) r).instance_state.place ≡ Some there)
         × IsFoundAt plant p instance_state.life changes t there f
     by (Ok done) is e = absurd cc
-    by (Err stop) is e = (stop.place, refl, subst (λ x. IsFoundAt plant p instance_state.life changes t stop.place x) (same_some stop.fault f e)
-        (found plant p instance_state.life changes t stop is))
+    by (Err stop) is e = (
+      stop.place,
+      refl,
+      subst (λ x. IsFoundAt plant p instance_state.life changes t stop.place x) (same_some stop.fault f e)
+          (found plant p instance_state.life changes t stop is),
+    )
