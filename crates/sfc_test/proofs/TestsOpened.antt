@@ -1,5 +1,14 @@
 -- Tests that are opened, and run.
-use Rattle.std.proofs.Common.{◌≡◌, ◌⊎◌, ℕ, List, Option, Result, Ok, Err, refl, inl, inr}
+use Rattle.std.proofs.Common.{◌≡◌, ℕ, List, Result, Ok, Err, refl, inl, inr, sym, ap, subst}
+use Rattle.sfc_cases.specs.Answers.{ReadsTests}
+use Rattle.sfc_cases.specs.Files.{file_of}
+use Rattle.sfc_cases.specs.declared.test_file.TestFile.{TestFile}
+use Rattle.sfc_replay.specs.sfc_script.declared.script.ScriptError.{ScriptError}
+use Rattle.sfc_replay.specs.sfc_script.declared.script.ScriptError.TheVariants as script
+use Rattle.sfc_judge.specs.Running.Benches.{steered_in}
+use Rattle.sfc_plant.specs.Plants.{PlantData}
+use Rattle.sfc_replay.specs.ReplayErrors.{of_script}
+use Rattle.sfc_replay.specs.sfc_load.Accepted.{IsAccepted}
 use Rattle.sfc_cases.specs.declared.line.Line.{Line}
 use Rattle.sfc_replay.specs.Acceptance.{Accepts, OfChart, most}
 use Rattle.sfc_replay.specs.Reading.{Device, IsUntouched, LosesAtMost, TakesAtMost}
@@ -15,6 +24,31 @@ use Rattle.sfc_test.specs.Opening.{OpensTests}
 use Rattle.sfc_test.specs.Taking.{Takes}
 use Rattle.sfc_test.specs.Tallies.{Tally}
 use Rattle.sfc_replay.proofs.Taken.{lost}
+
+-- the chart is refused
+pub plant_refused : (chart tests : List ℕ) (error : ReplayError) → Accepts chart (Err error) → OpensTests chart tests (Err error)
+plant_refused chart tests (Chart e) h = h
+plant_refused chart tests (Script n) h = absurd h
+plant_refused chart tests Read h = absurd h
+plant_refused chart tests Write h = absurd h
+plant_refused chart tests Memory h = tt
+
+module _ (chart tests : List ℕ) (plant : PlantData) (loaded : IsAccepted chart plant) where
+  -- the tests are, over the plant
+  pub tests_refused : (error : ScriptError) → ReadsTests plant tests (Err error) → OpensTests chart tests (Err (of_script error))
+  tests_refused (script.Faulty n) reads = (plant, loaded, reads)
+  tests_refused script.Memory reads = tt
+
+  -- they say something
+  pub tests_said : (file : TestFile) (opened : Opened) → ReadsTests plant tests (Ok file)
+      → steered_in opened.bench ≡ record { plant = plant; table = file.table.items } → opened.lines ≡ file.lines
+      → OpensTests chart tests (Ok opened)
+  tests_said file opened reads same lines = record {
+    loaded = subst (λ (s : Steered). IsAccepted chart s.plant) (sym same) loaded;
+    said = λ read is. subst (λ (s : Steered). file_of s.plant read tests ≡ Ok (record { lines = opened.lines.items; table = s.table })) (sym same)
+        (subst (λ ls. file_of plant read tests ≡ Ok (record { lines = ls; table = file.table.items })) (ap (λ ls. ls.items) (sym lines))
+        (reads read is));
+  }
 
 -- the tests aren't opened
 pub unopened : (chart tests : List ℕ) (wish : Wish) (t : Tally) (w : Device) (error : ReplayError) → OpensTests chart tests (Err error)

@@ -1,7 +1,7 @@
 -- Results as text (our choice; the Test Anything Protocol, version 12).
 use Rattle.std.specs.Prelude.{ℕ, ◌==◌, ◌||◌, if◌then◌else◌, List, [], ◌∷◌, ◌++◌, flat_map}
 use Rattle.std.specs.Fmt.{decimal}
-use Rattle.sfc_cases.specs.sfc_script.Lines.{lines_of}
+use Rattle.sfc_replay.specs.sfc_script.Lines.{lines_of}
 use Rattle.sfc_test.specs.declared.asked.Asked.{Asked}
 use Rattle.sfc_test.specs.declared.asked.Asked.TheVariants.{Names, Results, Tap}
 use Rattle.sfc_test.specs.declared.part.Part.{Part}

@@ -1,5 +1,5 @@
 use Rattle.std.proofs.Common.{◌≡◌, ◌++◌, flat_map, length}
-use Rattle.sfc_cases.specs.sfc_script.Lines.{lines_of}
+use Rattle.sfc_replay.specs.sfc_script.Lines.{lines_of}
 use Rattle.sfc_test.specs.Texts.{headed}
 use Rattle.sfc_test.proofs.told.append_each.Given as goal
 
