@@ -60,7 +60,7 @@ module _ (steered : Steered) where
       rs ++ qs,
       results_joined cs ds rs qs are are',
       ap (λ x. x ++ later) text ∙ ap (λ x. results_text asked file old rs ++ x) (text' ∙ ap (λ t. results_text asked file t qs) counted)
-      ∙ sym (texts_joined asked file old rs qs),
+          ∙ sym (texts_joined asked file old rs qs),
       counted' ∙ ap (λ t. behind_results file t qs) counted ∙ sym (behind_joined file old rs qs),
     )
 
@@ -104,7 +104,7 @@ module _ (steered : Steered) where
       h.came ∷ [],
       ap (λ o. o ∷ []) h.outcome,
       h.told ∙ ap (λ t. text_of asked (total t) h.came) h.counted
-      ∙ sym (append-nil (text_of asked (total (behind_one file old h.came)) h.came)),
+          ∙ sym (append-nil (text_of asked (total (behind_one file old h.came)) h.came)),
       h.counted,
     )
 
@@ -174,7 +174,7 @@ module _ (wish : Wish) (steered : Steered) where
           h.text ++ more.0,
           more.1,
           subst (λ x. TellsWanted wish steered x old more.1 (h.text ++ more.0)) (sym h.split)
-          (wanted_on h.done left old now more.1 h.text more.0 h.told more.2),
+              (wanted_on h.done left old now more.1 h.text more.0 h.told more.2),
           (h.text, more.0, refl, h.written),
         )
 
@@ -189,6 +189,6 @@ module _ (wish : Wish) (steered : Steered) where
           h.text ++ (text ++ more.0),
           more.1,
           subst (λ x. TellsWanted wish steered x old more.1 (h.text ++ (text ++ more.0))) (sym (h.split ∙ ap (λ x. h.done ++ x) e))
-          (wanted_on h.done (c ∷ others) old now more.1 h.text (text ++ more.0) h.told rest),
+              (wanted_on h.done (c ∷ others) old now more.1 h.text (text ++ more.0) h.told rest),
           front_second before mid behind h.text (text ++ more.0) h.written (front_first mid behind text more.0 front),
         )

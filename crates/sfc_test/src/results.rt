@@ -88,13 +88,7 @@ impl Results {
         ensures { IfOk result (λ text. text.items ≡ tallies.document_text chart.now (tally_of self.now)) }
     {
         let mut out = Vec::new(alloc);
-        append_document(
-            &mut out,
-            chart,
-            self.total(),
-            self.failed,
-            &self.elements,
-        )?;
+        append_document(&mut out, chart, self.total(), self.failed, &self.elements)?;
         Ok(out)
     }
 }

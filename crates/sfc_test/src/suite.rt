@@ -101,9 +101,16 @@ impl Suite {
             (tally_in self.old) (tally_in self.new) text.items) }
     {
         let judged = run(self.alloc, bench, job.source, titled.case, desk)?;
-        self.results.add(job.source.file.name, titled.title, &judged)?;
+        self.results
+            .add(job.source.file.name, titled.title, &judged)?;
         let mut text = Vec::new(self.alloc);
-        append_told(&mut text, job.choice.asked, self.results.total(), titled.title, &judged)?;
+        append_told(
+            &mut text,
+            job.choice.asked,
+            self.results.total(),
+            titled.title,
+            &judged,
+        )?;
         Ok(text)
     }
 

@@ -38,7 +38,7 @@ outcome chart tests rest old new before text all done end none untold (inr h) pu
         results,
         subst (λ cases. AreResults runs.steered cases results) (each_wanted (titled file runs.lines)) told.1,
         put ∙ ap (λ (x : List ℕ). x ++ counts_text new.passed new.failed) whole
-        ∙ ap (λ (n : ℕ). body ++ counts_text n new.failed) passed
-        ∙ ap (λ (n : ℕ). body ++ counts_text (counted (passed_among results)) n) failed,
+            ∙ ap (λ (n : ℕ). body ++ counts_text n new.failed) passed
+            ∙ ap (λ (n : ℕ). body ++ counts_text (counted (passed_among results)) n) failed,
       );
     }

@@ -25,5 +25,8 @@ returns-clause-tests g c =
     let w : Device = (g.W.Write.contents c.args.w.now, g.W.Write.contents c.test_file.new.w) in
     let named = subst (λ (n : List ℕ). Tests chart c.deref.result.now (wish n c.args.choice) old new w c.test_file.result) c.as_bytes-2.ensures.value
     c.test_file.ensures.tests in
-    inr (c.in_ok-text.text.items, c.in_ok-text.ensures.taken,
-    subst (λ (t : List ℕ). Tests chart t (wish c.args.name.now c.args.choice) old new w c.test_file.result) c.deref.ensures.value named)
+    inr (
+      c.in_ok-text.text.items,
+      c.in_ok-text.ensures.taken,
+      subst (λ (t : List ℕ). Tests chart t (wish c.args.name.now c.args.choice) old new w c.test_file.result) c.deref.ensures.value named,
+    )
