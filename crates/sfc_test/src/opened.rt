@@ -52,7 +52,8 @@ fn resource_of(alloc: Global, chart: &[u8]) -> Result<Resource, ReplayError>
 fn open_said(alloc: Global, resource: Resource, file: TestFile) -> Result<Opened, AllocError>
     requires untold { core.Agrees resource [] }
     ensures ready { IfOk result (λ opened. IsReady opened.bench) }
-    ensures steered { IfOk result (λ opened. steered_in opened.bench ≡ record { plant = core.plant_of resource; table = file.table.items }) }
+    ensures steered { IfOk result (λ opened.
+        steered_in opened.bench ≡ record { plant = core.plant_of resource; table = file.table.items }) }
     ensures lines { IfOk result (λ opened. opened.lines ≡ file.lines) }
 {
     let (lines, places, table) = file.into_parts();

@@ -76,8 +76,8 @@ fn hand_over<D: Desk>(alloc: Global, bench: &mut Bench, desk: &mut D) -> Result<
     desk.take(&script, false)
 }
 
-/// Runs a case, and hands its commands to the desk where it failed, or where those of all cases are wanted. The one error is that memory was
-/// refused.
+/// Runs a case, and hands its commands to the desk where it failed, or where those of all cases are wanted. The one error is that memory
+/// was refused.
 pub fn run<D: Desk>(
     alloc: Global,
     bench: &mut Bench,

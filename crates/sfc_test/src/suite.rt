@@ -97,8 +97,8 @@ impl Suite {
         ensures ready { IsReady bench.new }
         ensures steered { steered_in bench.new ≡ steered_in bench.old }
         ensures chart { chart_in self.new ≡ chart_in self.old }
-        ensures told { IfOk result (λ text. Runs (steered_in bench.old) job.entry.source.file.name.now job.entry.choice.asked (case_in titled.entry)
-            (tally_in self.old) (tally_in self.new) text.items) }
+        ensures told { IfOk result (λ text. Runs (steered_in bench.old) job.entry.source.file.name.now job.entry.choice.asked
+            (case_in titled.entry) (tally_in self.old) (tally_in self.new) text.items) }
     {
         let judged = run(self.alloc, bench, job.source, titled.case, desk)?;
         self.results
@@ -126,8 +126,8 @@ impl Suite {
         ensures ready { IsReady bench.new }
         ensures steered { steered_in bench.new ≡ steered_in bench.old }
         ensures chart { chart_in self.new ≡ chart_in self.old }
-        ensures told { IfOk result (λ text.
-            TellsWanted (wish_of job.entry) (steered_in bench.old) (case_in titled.entry ∷ []) (tally_in self.old) (tally_in self.new) text.items) }
+        ensures told { IfOk result (λ text. TellsWanted (wish_of job.entry) (steered_in bench.old) (case_in titled.entry ∷ [])
+            (tally_in self.old) (tally_in self.new) text.items) }
     {
         if !has_word(titled.title, job.choice.filter) {
             return Ok(Vec::new(self.alloc));
@@ -151,8 +151,8 @@ impl Suite {
     ) -> Result<(), ReplayError>
         requires ready { IsReady bench.old }
         ensures chart { chart_in self.new ≡ chart_in self.old }
-        ensures takes { Takes (wish_of job.entry) (steered_in bench.old) (titled_cases job.entry.source.file.name.now job.entry.source.lines.now)
-            (tally_in self.old) (tally_in self.new) (W.contents w.old, W.contents w.new) result }
+        ensures takes { Takes (wish_of job.entry) (steered_in bench.old)
+            (titled_cases job.entry.source.file.name.now job.entry.source.lines.now) (tally_in self.old) (tally_in self.new) (W.contents w.old, W.contents w.new) result }
     {
         let mut rest = Titles::of_file(job.source.file.name, job.source.lines);
         'cases: while let Some((titled, others)) = rest.split_first() {
@@ -172,8 +172,8 @@ impl Suite {
         w: &mut W,
     ) -> Result<(), ReplayError>
         ensures chart { chart_in self.new ≡ chart_in self.old }
-        ensures tests { Tests (chart_in self.old) file.entry.text.now (wish file.entry.name.now choice.entry) (tally_in self.old) (tally_in self.new)
-            (W.contents w.old, W.contents w.new) result }
+        ensures tests { Tests (chart_in self.old) file.entry.text.now (wish file.entry.name.now choice.entry)
+            (tally_in self.old) (tally_in self.new) (W.contents w.old, W.contents w.new) result }
     {
         let Opened {
             mut bench,

@@ -17,8 +17,8 @@ use Rattle.sfc_tools.specs.Told.{Answer, Tells, read_of}
 abbrev pub tests_of : List ℕ → List ℕ
 tests_of tests = take most_tests tests
 
--- The text is what came of each case, in their order, and behind them how many have passed and how many have failed. A case passes just where
--- each of its lines is right over the plant.
+-- The text is what came of each case, in their order, and behind them how many have passed and how many have failed. A case passes just
+-- where each of its lines is right over the plant.
 abbrev pub IsOutcomeOf : Steered → List Line → List ℕ → Type 0
 IsOutcomeOf steered lines text = (results : List CaseResult) × AreResults steered (titled (codes "tests") lines) results
     × (text ≡ flat_map result_text results ++ counts_text (counted (passed_among results)) (counted (failed_among results)))
