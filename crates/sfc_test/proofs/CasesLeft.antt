@@ -1,11 +1,11 @@
 -- The cases of a file, one by one.
-use Rattle.std.proofs.Common.{◌≡◌, ℕ, List, [], ◌∷◌, ◌++◌, map, Bool, true, false, Option, Some, None, refl, sym, ap, subst, ◌∙◌}
+use Rattle.std.proofs.Common.{◌≡◌, ℕ, List, [], ◌∷◌, ◌++◌, Bool, true, false, refl, sym, ap, ◌∙◌}
 use Rattle.std.proofs.lemmas.List.{append-nil}
-use Rattle.sfc_cases.specs.Files.{before_test, begins_by, begins_case, cases_of, own_cases}
+use Rattle.sfc_cases.specs.Files.{before_test, begins_by, begins_case, own_cases}
 use Rattle.sfc_cases.specs.declared.deed.Deed.{Deed}
 use Rattle.sfc_cases.specs.declared.deed.Deed.TheVariants as deeds
 use Rattle.sfc_cases.specs.declared.line.Line.{Line}
-use Rattle.sfc_test.specs.Cases.{TitledCase, beside, names_by, names_in, titled}
+use Rattle.sfc_test.specs.Cases.{names_by, names_in, titled}
 use Rattle.sfc_test.specs.Running.{titled_behind}
 
 -- ---- a line

@@ -1,5 +1,5 @@
 -- Numbers that are counts.
-use Rattle.std.proofs.Common.{◌≡◌, ℕ, suc, ◌+◌, ◌-◌, ◌^◌, ◌≤◌, min, List, [], ◌∷◌, ◌++◌, flat_map, Bool, true, false, refl, ap, ◌∙◌, arith}
+use Rattle.std.proofs.Common.{◌≡◌, ℕ, suc, ◌+◌, ◌-◌, ◌^◌, ◌≤◌, List, [], ◌∷◌, ◌++◌, flat_map, Bool, true, false, refl, ap, ◌∙◌, arith}
 use Rattle.std.proofs.Math.Nat.{zero-add}
 use Rattle.sfc_test.specs.declared.asked.Asked.TheVariants.{Results}
 use Rattle.sfc_test.specs.Cases.{TitledCase, has_word, wanted}

@@ -10,15 +10,14 @@ use Rattle.sfc_plant.specs.Plants.{PlantData}
 use Rattle.sfc_replay.specs.ReplayErrors.{of_script}
 use Rattle.sfc_replay.specs.sfc_load.Accepted.{IsAccepted}
 use Rattle.sfc_cases.specs.declared.line.Line.{Line}
-use Rattle.sfc_replay.specs.Acceptance.{Accepts, OfChart, most}
+use Rattle.sfc_replay.specs.Acceptance.{Accepts, most}
 use Rattle.sfc_replay.specs.Reading.{Device, IsUntouched, LosesAtMost, TakesAtMost}
 use Rattle.sfc_replay.specs.Working.Faults.{IsInputFault}
 use Rattle.sfc_replay.specs.declared.replay_error.ReplayError.{ReplayError}
 use Rattle.sfc_replay.specs.declared.replay_error.ReplayError.TheVariants.{Chart, Script, Read, Write, Memory}
 use Rattle.sfc_replay.specs.sfc_debug.Steered.{Steered}
 use Rattle.sfc_test.specs.declared.opened.Opened.{Opened}
-use Rattle.sfc_test.specs.declared.suite.Suite.{Suite}
-use Rattle.sfc_test.specs.Answers.{Opens, SaysTests, Tests, TestsFrom, Wish, most_tests}
+use Rattle.sfc_test.specs.Answers.{Opens, SaysTests, Tests, Wish}
 use Rattle.sfc_test.specs.Cases.{titled}
 use Rattle.sfc_test.specs.Opening.{OpensTests}
 use Rattle.sfc_test.specs.Taking.{Takes}

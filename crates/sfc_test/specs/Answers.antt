@@ -3,7 +3,7 @@ use Rattle.std.specs.Prelude.{◌≡◌, ◌⊎◌, ℕ, List, Result, Ok, Err}
 use Rattle.std.specs.Io.KnownBytes.{Appends}
 use Rattle.sfc_base.specs.Writing.{AppendsFront}
 use Rattle.sfc_cases.specs.Conditions.{IsReader, Reader}
-use Rattle.sfc_cases.specs.Files.{FileData, file_of}
+use Rattle.sfc_cases.specs.Files.{file_of}
 use Rattle.sfc_cases.specs.declared.line.Line.{Line}
 use Rattle.sfc_plant.specs.Plants.{PlantData}
 use Rattle.sfc_replay.specs.Acceptance.{IsRefusedFor, OfChart, most}

@@ -1,5 +1,5 @@
 -- The cases of a file with their titles, and which of them are wanted.
-use Rattle.std.specs.Prelude.{ℕ, ◌==◌, Bool, ◌||◌, List, [], ◌∷◌, ◌++◌, filter, flat_map, zip}
+use Rattle.std.specs.Prelude.{ℕ, ◌==◌, Bool, ◌||◌, List, [], ◌∷◌, filter, flat_map}
 use Rattle.std.specs.List.{starts_with}
 use Rattle.sfc_cases.specs.declared.deed.Deed.{Deed}
 use Rattle.sfc_cases.specs.declared.deed.Deed.TheVariants.{Begins}

@@ -1,6 +1,6 @@
 -- What is cited of cases that are run.
 use Rattle.std.specs.Prelude.{◌≡◌, ℕ, Bool, true, false, List, [], ◌++◌, ◌∷◌, map, Option, Some, None, option_map}
-use Rattle.sfc_cases.specs.Files.{before_test, own_cases}
+use Rattle.sfc_cases.specs.Files.{own_cases}
 use Rattle.sfc_cases.specs.declared.line.Line.{Line}
 use Rattle.sfc_judge.specs.Running.Cases.{lines_in}
 use Rattle.sfc_replay.specs.sfc_debug.Steered.{Steered}

@@ -2,7 +2,6 @@
 use Rattle.std.specs.Prelude.{◌≡◌, ℕ, List, ◌++◌, Option, Result, Ok, Err}
 use Rattle.std.specs.Io.KnownBytes.{Appends}
 use Rattle.sfc_base.specs.Writing.{AppendsFront}
-use Rattle.sfc_cases.specs.declared.line.Line.{Line}
 use Rattle.sfc_replay.specs.Reading.{Device}
 use Rattle.sfc_replay.specs.declared.replay_error.ReplayError.{ReplayError}
 use Rattle.sfc_replay.specs.declared.replay_error.ReplayError.TheVariants.{Write, Memory}

@@ -3,7 +3,7 @@ use Rattle.std.specs.Prelude.{ℕ, ◌==◌, ◌||◌, if◌then◌else◌, List
 use Rattle.std.specs.Fmt.{decimal}
 use Rattle.sfc_replay.specs.sfc_script.Lines.{lines_of}
 use Rattle.sfc_test.specs.declared.asked.Asked.{Asked}
-use Rattle.sfc_test.specs.declared.asked.Asked.TheVariants.{Names, Results, Tap}
+use Rattle.sfc_test.specs.declared.asked.Asked.TheVariants.{Tap}
 use Rattle.sfc_test.specs.declared.part.Part.{Part}
 use Rattle.sfc_test.specs.declared.part.Part.TheVariants as parts
 use Rattle.sfc_test.specs.Cases.{TitledCase}

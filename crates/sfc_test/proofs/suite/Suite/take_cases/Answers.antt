@@ -1,14 +1,13 @@
-use Rattle.std.proofs.Common.{◌≡◌, ◌∷◌, ℕ, List, [], Option, refl, sym, ap, subst, ◌∙◌}
+use Rattle.std.proofs.Common.{◌∷◌, [], refl, sym, subst, ◌∙◌}
 use Rattle.std.proofs.lemmas.Result.{err_from_is_err_and}
 use Rattle.std.specs.Io.KnownBytes.{Appends}
 use Rattle.sfc_base.specs.Writing.{AppendsFront}
 use Rattle.sfc_judge.specs.Running.Benches.{steered_in}
-use Rattle.sfc_replay.specs.sfc_debug.Steered.{Steered}
 use Rattle.sfc_test.specs.Answers.{tally_in}
-use Rattle.sfc_test.specs.Cases.{TitledCase, titled}
+use Rattle.sfc_test.specs.Cases.{titled}
 use Rattle.sfc_test.specs.Running.{case_in, cases_left}
 use Rattle.sfc_test.specs.Taking.{IsUnderWay, TellsWanted, wish_of}
-use Rattle.sfc_test.proofs.CasesTold.{all_told, begun, broken_off, broken_within, gone_on}
+use Rattle.sfc_test.proofs.CasesTold.{begun, broken_off, broken_within, gone_on}
 use Rattle.sfc_test.proofs.suite.Suite.take_cases.Goals as goal
 
 pub cases-init : goal.cases-init

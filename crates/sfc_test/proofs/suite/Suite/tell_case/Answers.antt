@@ -1,9 +1,8 @@
-use Rattle.std.proofs.Common.{◌≡◌, ◌⊎◌, ◌∷◌, [], true, inl, inr, sym, ◌∙◌}
+use Rattle.std.proofs.Common.{◌≡◌, ◌⊎◌, inl, inr, sym, ◌∙◌}
 use Rattle.sfc_judge.specs.Running.Benches.{steered_in}
 use Rattle.sfc_test.specs.declared.asked.Asked.{Asked}
 use Rattle.sfc_test.specs.declared.asked.Asked.TheVariants.{Names, Results, Tap}
 use Rattle.sfc_test.specs.Answers.{tally_in}
-use Rattle.sfc_test.specs.Cases.{has_word}
 use Rattle.sfc_test.specs.Running.{case_in}
 use Rattle.sfc_test.specs.Taking.{wish_of}
 use Rattle.sfc_test.proofs.CasesTold.{one_told, one_wanted}
