@@ -17,9 +17,10 @@ returns-clause-tests g c =
     let old = tally_in c.args.self.now in
     let new = tally_in c.take_cases.new.self in
     let w : Device = (g.W.Write.contents c.args.w.now, g.W.Write.contents c.take_cases.new.w) in
-    let steered = steered_in c.in_ok-bench.bench in
-    let lines = c.in_ok-bench.lines.items in
+    let steered = steered_in c.in_ok-bench.field-0.bench in
+    let lines = c.in_ok-bench.field-0.lines.items in
+    let taken = subst (λ (ls : List Line). Takes wished (steered_in c.in_ok-bench.bench) (titled wished.file ls) old new w c.take_cases.result)
+    c.deref-2.ensures.value c.take_cases.ensures.takes in
     all_taken chart tests wished old new w steered lines c.take_cases.result
     (subst (λ (text : List ℕ). SaysTests text tests steered lines) c.deref.ensures.value c.in_ok-bench.ensures.opens)
-    (subst (λ (ls : List Line). Takes wished steered (titled wished.file ls) old new w c.take_cases.result) c.deref-2.ensures.value
-    c.take_cases.ensures.takes)
+    (rw (c.in_ok-bench.bench-is, c.in_ok-bench.lines-is) at taken)
