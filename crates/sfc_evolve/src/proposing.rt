@@ -10,11 +10,11 @@ ghost use Rattle.sfc_evolve.specs.Private.Proposing.{proposed_by};
 
 use sfc_base::references::StepId;
 use sfc_base::ticks::Ticks;
-use sfc_flags::sparse_flags::SparseFlags;
+use sfc_flags::flags::Flags;
 use sfc_tables::tables::Tables;
 
 // Sets the flags of these places.
-fn set_places(flags: &mut SparseFlags, places: &[usize], ticks: &mut Ticks)
+fn set_places(flags: &mut Flags, places: &[usize], ticks: &mut Ticks)
     requires { All (λ p. p < length flags.old) places.now }
     ensures flags { flags.new ≡ set_at places.now flags.old }
     ensures len { length flags.new ≡ length flags.old }
@@ -29,8 +29,8 @@ fn set_places(flags: &mut SparseFlags, places: &[usize], ticks: &mut Ticks)
 // Proposes the transitions whose first preceding step is active, where one word has all steps.
 fn propose_word(
     tables: &Tables,
-    active: &SparseFlags,
-    candidates: &mut SparseFlags,
+    active: &Flags,
+    candidates: &mut Flags,
     ticks: &mut Ticks,
 )
     requires tables { AreTables tables.now }
@@ -53,8 +53,8 @@ fn propose_word(
 #[inline(always)]
 pub fn propose(
     tables: &Tables,
-    active: &SparseFlags,
-    candidates: &mut SparseFlags,
+    active: &Flags,
+    candidates: &mut Flags,
     ticks: &mut Ticks,
 )
     requires tables { AreTables tables.now }

@@ -16,10 +16,6 @@ word_count flags = div_ceil (length flags) 64
 abbrev pub word_of : ℕ → ℕ
 word_of place = place / 64
 
--- no place of this word has its flag
-abbrev pub IsBlank : List Bool → ℕ → Type 0
-IsBlank flags number = (place : ℕ) → word_of place ≡ number → flag flags place ≡ false
-
 -- ---- work from word to word, where rows tell what each place has
 
 -- the places of the word of this number have these rows, and the others what they had
