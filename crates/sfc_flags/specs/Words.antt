@@ -1,7 +1,6 @@
 -- Words, each of which holds the flags of 64 places that follow each other.
-use Rattle.std.specs.Prelude.{ℕ, ◌≡◌, ◌<◌, ◌≤◌, ◌/◌, ◌%◌, ◌==◌, Bool, false, cond, List, length}
+use Rattle.std.specs.Prelude.{ℕ, ◌≡◌, ◌<◌, ◌≤◌, ◌/◌, ◌%◌, ◌==◌, Bool, cond, List, length}
 use Rattle.std.specs.Int.{bit_at, div_ceil}
-use Rattle.sfc_flags.specs.Flags.{flag}
 use Rattle.sfc_flags.specs.declared.word.Word.{Word}
 
 -- the flag that a word has for a place of the table; the place within the word alone counts
