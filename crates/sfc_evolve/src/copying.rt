@@ -11,12 +11,7 @@ use sfc_flags::flags::Flags;
 use sfc_flags::word::Word;
 
 /// Takes over the flags of two tables. The caller counts it: a tick for what is copied of a step or of a transition.
-pub fn copy_flags(
-    first: &mut Flags,
-    second: &mut Flags,
-    from_first: &Flags,
-    from_second: &Flags,
-)
+pub fn copy_flags(first: &mut Flags, second: &mut Flags, from_first: &Flags, from_second: &Flags)
     requires second_len { length second.old ≡ length first.old }
     requires from_first_len { length from_first.now ≡ length first.old }
     requires from_second_len { length from_second.now ≡ length first.old }

@@ -26,10 +26,7 @@ pub fn two_sets(alloc: Global, count: usize) -> Result<(Flags, Flags), AllocErro
 }
 
 /// Three tables with no flag set. The one error is that memory was refused.
-pub fn three_sets(
-    alloc: Global,
-    count: usize,
-) -> Result<(Flags, Flags, Flags), AllocError>
+pub fn three_sets(alloc: Global, count: usize) -> Result<(Flags, Flags, Flags), AllocError>
     ensures first { IfOk result (λ sets. sets.0 ≡ replicate count false) }
     ensures second { IfOk result (λ sets. sets.1 ≡ replicate count false) }
     ensures third { IfOk result (λ sets. sets.2 ≡ replicate count false) }

@@ -27,12 +27,7 @@ fn set_places(flags: &mut Flags, places: &[usize], ticks: &mut Ticks)
 }
 
 // Proposes the transitions whose first preceding step is active, where one word has all steps.
-fn propose_word(
-    tables: &Tables,
-    active: &Flags,
-    candidates: &mut Flags,
-    ticks: &mut Ticks,
-)
+fn propose_word(tables: &Tables, active: &Flags, candidates: &mut Flags, ticks: &mut Ticks)
     requires tables { AreTables tables.now }
     requires one { word_count active.now ≡ 1 }
     requires active_len { length active.now ≡ length tables.now.initial }
@@ -51,12 +46,7 @@ fn propose_word(
 
 /// Proposes, by place in rank order, the transitions whose first preceding step is active, and no others.
 #[inline(always)]
-pub fn propose(
-    tables: &Tables,
-    active: &Flags,
-    candidates: &mut Flags,
-    ticks: &mut Ticks,
-)
+pub fn propose(tables: &Tables, active: &Flags, candidates: &mut Flags, ticks: &mut Ticks)
     requires tables { AreTables tables.now }
     requires active_len { length active.now ≡ length tables.now.initial }
     requires candidates_len { length candidates.old ≡ length tables.now.sides }

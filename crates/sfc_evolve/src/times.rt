@@ -54,12 +54,7 @@ pub struct Activated<'a> {
 }
 
 /// These steps become active, and begin at the scan's instant.
-pub fn begin(
-    active: &mut Flags,
-    since: &mut [i64],
-    activated: Activated<'_>,
-    ticks: &mut Ticks,
-)
+pub fn begin(active: &mut Flags, since: &mut [i64], activated: Activated<'_>, ticks: &mut Ticks)
     requires low { pos 0 ≤ℤ activated.t }
     requires high { activated.t ≤ℤ pos (2 ^ 62) }
     requires instants { AreInstants since.old }
