@@ -10,7 +10,7 @@ use crate::stores::Stores;
 use crate::timed::Timed;
 use crate::timed_words::TimedWords;
 use sfc_base::ticks::Ticks;
-use sfc_flags::flags::{Flags, Flags};
+use sfc_flags::flags::Flags;
 use sfc_tables::tables::Tables;
 use std::alloc::{AllocError, Global};
 

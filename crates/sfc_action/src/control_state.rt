@@ -6,7 +6,7 @@ use crate::delays::Delays;
 use crate::kept::Kept;
 use crate::state_words::StateWords;
 use sfc_base::ticks::Ticks;
-use sfc_flags::flags::{Flags, Flags};
+use sfc_flags::flags::Flags;
 use std::alloc::{AllocError, Global};
 
 /// Of each action the inputs P, P1 and P0 of the newest scan, its flip-flops, its Q and whether it was executed, and the

@@ -54,7 +54,7 @@ use crate::timed::Timed;
 use sfc_base::ids::ActionNumber;
 use sfc_base::ticks::Ticks;
 use sfc_evolve::steps::Steps;
-use sfc_flags::flags::{Flags, Flags};
+use sfc_flags::flags::Flags;
 use sfc_tables::tables::Tables;
 use std::alloc::{AllocError, Global};
 

@@ -11,7 +11,7 @@ use crate::state::State;
 use sfc_base::ids::{ActionNumber, TransitionId};
 use sfc_base::references::StepId;
 use sfc_base::ticks::Ticks;
-use sfc_flags::flags::{Flags, Flags};
+use sfc_flags::flags::Flags;
 use sfc_image::image::Image;
 use sfc_image::step_readings::StepReadings;
 use sfc_tables::tables::Tables;

@@ -11,7 +11,7 @@ use sfc_base::ids::{ActionNumber, ProgId, TransitionId};
 use sfc_base::references::{StepId, Variable};
 use sfc_base::value::Value;
 use sfc_expr::view::View;
-use sfc_flags::flags::{Flags, Flags};
+use sfc_flags::flags::Flags;
 use sfc_image::image::Image;
 use sfc_image::step_readings::StepReadings;
 use sfc_image::view::ImageView;
