@@ -66,6 +66,14 @@ enum {
 /* Modes. */
 enum { SFC_RUNNING = 0, SFC_HALTED = 1, SFC_END = 2 };
 
+/* In what the fault of a scan is. */
+enum {
+    SFC_NO_PLACE = 0,     /* no fault stands */
+    SFC_IN_CONDITION = 1, /* in the condition of a transition */
+    SFC_IN_CONTROL = 2,   /* in the control block of an action: two associations don't go together */
+    SFC_IN_BODY = 3       /* in a statement of the body of a declared action */
+};
+
 /* A resource, or none. */
 typedef struct {
     void *at;
@@ -143,8 +151,11 @@ typedef struct {
 
 /* How a program stands. */
 typedef struct {
-    uint64_t scans; /* how many scans its life has had */
-    int32_t fault;  /* 0, or 1 DivZero, 2 Range, 3 TwoTimed, 4 SdWhileSl, 5 SlWhileSd */
+    uint64_t scans;    /* how many scans its life has had */
+    int32_t fault;     /* what ended a scan since its latest reset: 1 DivZero, 2 Range, 3 TwoTimed, 4 SdWhileSl, 5 SlWhileSd; else 0 */
+    int32_t place;     /* in what that is: SFC_IN_CONDITION, SFC_IN_CONTROL or SFC_IN_BODY; else SFC_NO_PLACE */
+    int32_t number;    /* which transition or action, as sfc_point has it; SFC_UNKNOWN for one above 65,535; -1 where no fault stands */
+    int32_t statement; /* with SFC_IN_BODY which statement, counted from 1, at most 2^31 - 1; else 0. What is in an IF is part of it */
 } sfc_program_state_t;
 
 /* How a step, a transition or an action stands after the latest scan of its program. */
@@ -283,7 +294,8 @@ _Static_assert(sizeof(sfc_reply_t) == 56 && offsetof(sfc_reply_t, next) == 32 &&
 _Static_assert(sizeof(sfc_status_t) == 24 && offsetof(sfc_status_t, mode) == 16, "sfc_status_t");
 _Static_assert(sizeof(sfc_variable_state_t) == 16 && offsetof(sfc_variable_state_t, forced) == 8, "sfc_variable_state_t");
 _Static_assert(sizeof(sfc_task_state_t) == 16 && offsetof(sfc_task_state_t, overruns) == 8, "sfc_task_state_t");
-_Static_assert(sizeof(sfc_program_state_t) == 16 && offsetof(sfc_program_state_t, fault) == 8, "sfc_program_state_t");
+_Static_assert(sizeof(sfc_program_state_t) == 24 && offsetof(sfc_program_state_t, fault) == 8 && offsetof(sfc_program_state_t, place) == 12
+               && offsetof(sfc_program_state_t, number) == 16 && offsetof(sfc_program_state_t, statement) == 20, "sfc_program_state_t");
 _Static_assert(sizeof(sfc_point_state_t) == 16 && offsetof(sfc_point_state_t, active) == 8, "sfc_point_state_t");
 #endif
 

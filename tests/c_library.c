@@ -139,6 +139,7 @@ static void fields(void) {
     WANT(sfc_status(&plc, &status) == 0 && status.instant == 650000 && status.accepted == 6 && status.mode == SFC_HALTED);
     WANT(sfc_unbreak(&plc, 0, SFC_STEP, 1, 900000) == 0 && sfc_go(&plc, 900000) == 0 && sfc_status(&plc, &status) == 0);
     WANT(status.mode == SFC_RUNNING && sfc_program_state(&plc, 0, &program) == 0 && program.scans == 3 && program.fault == 0);
+    WANT(program.place == SFC_NO_PLACE && program.number == -1 && program.statement == 0);
     WANT(sfc_forced(&plc, pump) == 0 && sfc_force(&plc, pump, 0, 900000) == 0 && sfc_forced(&plc, pump) == 1);
     WANT(sfc_value(&plc, pump, &value) == 0 && value == 0 && sfc_release(&plc, pump, 900000) == 0);
     WANT(sfc_value(&plc, pump, &value) == 0 && value == 1 && sfc_stop(&plc, 900000) == 0 && sfc_stop(&plc, 900000) == 35);
@@ -290,7 +291,52 @@ static void ends(void) {
     WANT(sfc_open((const uint8_t *)chart, sizeof chart - 1, &plc) == 0);
     WANT(sfc_advance(&plc, 1000000, &did) == 0 && did.end == SFC_FAULT && did.scans == 3 && did.instant == 20000 && did.faulted == 3);
     WANT(sfc_program_state(&plc, 1, &program) == 0 && program.fault == 1 && program.scans == 2);
+    WANT(program.place == SFC_IN_BODY && program.number == 0 && program.statement == 2);
     WANT(sfc_advance(&plc, 1000000, &did) == 0 && did.end == SFC_REACHED && did.scans == 98 && did.faulted == 0 && did.instant == 1000000);
+    sfc_close(&plc);
+}
+
+/* whether a program stands so: its scans, its fault, and where that is */
+static int stands(sfc_handle_t *plc, uint8_t number, uint64_t scans, int32_t fault, int32_t place, int32_t at, int32_t statement) {
+    sfc_program_state_t is = {7, 7, 7, 7, 7};
+    return sfc_program_state(plc, number, &is) == 0 && is.scans == scans && is.fault == fault && is.place == place && is.number == at
+        && is.statement == statement;
+}
+
+/* Where faults are, each kind of place: in the IF of the second declared action, which stands behind the variable Lamp; in the condition of
+ * the second transition; in the control of the second variable, which two associations with a time have. N and Left fall by one in each
+ * scan, to 0 in the third, at 20 ms; the two associations meet in the second. */
+static void faults(void) {
+    static const char chart[] = "PROGRAM Count VAR N : INT := 3; Q, R : INT; END_VAR INITIAL_STEP S: Lamp(N); Clear(N); Fill(N); END_STEP "
+        "ACTION Clear: R := 0; END_ACTION ACTION Fill: N := N - 1; IF N < 2 THEN R := 1; Q := 6 / N; END_IF; END_ACTION END_PROGRAM "
+        "PROGRAM Choose VAR Left : INT := 2; END_VAR INITIAL_STEP A: Down(N); END_STEP STEP B: END_STEP STEP C: END_STEP "
+        "TRANSITION FROM A TO B := Left > 9; END_TRANSITION TRANSITION Out FROM A TO C := 6 / Left > 6; END_TRANSITION "
+        "ACTION Down: Left := Left - 1; END_ACTION END_PROGRAM "
+        "PROGRAM Heat INITIAL_STEP A: Fan(N); END_STEP STEP B: Fan(N); Heater(L, T#1s); Heater(D, T#1s); END_STEP "
+        "TRANSITION FROM A TO B := TRUE; END_TRANSITION END_PROGRAM CONFIGURATION K RESOURCE R ON X "
+        "VAR_GLOBAL Lamp, Fan, Heater : BOOL; END_VAR TASK T(INTERVAL := T#10ms, PRIORITY := 1); "
+        "PROGRAM Count1 WITH T : Count; PROGRAM Choose1 WITH T : Choose; PROGRAM Heat1 WITH T : Heat; END_RESOURCE END_CONFIGURATION";
+    sfc_handle_t plc = SFC_NONE;
+    sfc_advanced_t did = {0};
+    WANT(sfc_open((const uint8_t *)chart, sizeof chart - 1, &plc) == 0);
+    for (uint8_t k = 0; k < 3; k++) WANT(stands(&plc, k, 0, 0, SFC_NO_PLACE, -1, 0));
+    WANT(point_named(&plc, 0, SFC_ACTION, "Fill") == 2 && point_named(&plc, 1, SFC_TRANSITION, "Out") == 1);
+    WANT(point_named(&plc, 2, SFC_ACTION, "Heater") == 1 && sfc_save(&plc, 0) == 0);
+    WANT(sfc_advance(&plc, 90000, &did) == 0 && did.end == SFC_FAULT && did.instant == 10000 && did.faulted == 4);
+    WANT(stands(&plc, 0, 2, 0, SFC_NO_PLACE, -1, 0) && stands(&plc, 1, 2, 0, SFC_NO_PLACE, -1, 0));
+    WANT(stands(&plc, 2, 1, 3, SFC_IN_CONTROL, 1, 0) && sfc_save(&plc, 1) == 0);
+    WANT(sfc_advance(&plc, 90000, &did) == 0 && did.end == SFC_FAULT && did.instant == 20000 && did.faulted == 3);
+    WANT(stands(&plc, 0, 2, 1, SFC_IN_BODY, 2, 2) && stands(&plc, 1, 2, 1, SFC_IN_CONDITION, 1, 0));
+    WANT(stands(&plc, 2, 1, 3, SFC_IN_CONTROL, 1, 0) && sfc_save(&plc, 2) == 0);
+    WANT(sfc_reset(&plc, 0, 20000) == 0 && stands(&plc, 0, 0, 0, SFC_NO_PLACE, -1, 0) && stands(&plc, 1, 2, 1, SFC_IN_CONDITION, 1, 0));
+    WANT(sfc_reset(&plc, 1, 20000) == 0 && sfc_reset(&plc, 2, 20000) == 0);
+    for (uint8_t k = 0; k < 3; k++) WANT(stands(&plc, k, 0, 0, SFC_NO_PLACE, -1, 0));
+    WANT(sfc_advance(&plc, 40000, &did) == 0 && did.instant == 40000 && did.faulted == 4 && stands(&plc, 2, 1, 3, SFC_IN_CONTROL, 1, 0));
+    WANT(sfc_restore(&plc, 2) == 0 && stands(&plc, 0, 2, 1, SFC_IN_BODY, 2, 2) && stands(&plc, 1, 2, 1, SFC_IN_CONDITION, 1, 0));
+    WANT(stands(&plc, 2, 1, 3, SFC_IN_CONTROL, 1, 0) && sfc_advance(&plc, 90000, &did) == 0 && did.end == SFC_REACHED);
+    WANT(stands(&plc, 0, 2, 1, SFC_IN_BODY, 2, 2) && sfc_restore(&plc, 1) == 0 && stands(&plc, 0, 2, 0, SFC_NO_PLACE, -1, 0));
+    WANT(stands(&plc, 2, 1, 3, SFC_IN_CONTROL, 1, 0) && sfc_advance(&plc, 20000, &did) == 0 && stands(&plc, 0, 2, 1, SFC_IN_BODY, 2, 2));
+    WANT(sfc_restore(&plc, 0) == 0 && stands(&plc, 2, 0, 0, SFC_NO_PLACE, -1, 0));
     sfc_close(&plc);
 }
 
@@ -535,6 +581,7 @@ int main(int argc, char **argv) {
     else if (!strcmp(argv[1], "places")) places();
     else if (!strcmp(argv[1], "tasks")) tasks();
     else if (!strcmp(argv[1], "ends")) ends();
+    else if (!strcmp(argv[1], "faults")) faults();
     else if (!strcmp(argv[1], "saves")) saves();
     else if (!strcmp(argv[1], "forks")) forks();
     else if (!strcmp(argv[1], "refusals")) refusals();

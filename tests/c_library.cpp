@@ -44,10 +44,23 @@ static void belt(const char *path) {
     WANT(plc.task_state(1).overruns == 0 && plc.program_state(0).scans == 0);
 }
 
+/* The first scan divides by zero, in the second statement of the declared action, behind a variable that is one. */
+static void fault() {
+    sfc::Plc plc("PROGRAM P VAR N : INT; END_VAR INITIAL_STEP S: Lamp(N); Fill(N); END_STEP ACTION Fill: N := 0; N := 1 / N; END_ACTION "
+                 "END_PROGRAM CONFIGURATION C RESOURCE R ON X VAR_GLOBAL Lamp : BOOL; END_VAR TASK T(INTERVAL := T#10ms, PRIORITY := 1); "
+                 "PROGRAM I WITH T : P; END_RESOURCE END_CONFIGURATION");
+    WANT(plc.program_state(0).place == SFC_NO_PLACE && plc.program_state(0).number == -1 && plc.advance(0us).end == SFC_FAULT);
+    const auto is = plc.program_state(0);
+    WANT(is.fault == 1 && is.place == SFC_IN_BODY && is.number == plc.action("I", "Fill").number && is.number == 1 && is.statement == 2);
+    plc.reset(0, 0us);
+    WANT(plc.program_state(0).place == SFC_NO_PLACE && plc.program_state(0).statement == 0);
+}
+
 int main(int argc, char **argv) {
     if (argc != 3) return 2;
     pump(argv[1]);
     belt(argv[2]);
+    fault();
     WANT(sfc::version().find('.') != std::string::npos && sfc::explain(29).rfind("29 NotDue\n", 0) == 0);
     try {
         sfc::Plc("PROGRAM P\n  STEP\nEND_PROGRAM");

@@ -66,10 +66,13 @@ def check_program(plc, line):
     words = line.split()
     if words[1] in ("fault", "skipped"):
         kinds = ["DivZero", "Range", "TwoTimed", "SdWhileSl", "SlWhileSd"]
-        assert plc.state(words[0]).fault == 1 + kinds.index(words[2]), line
+        state = plc.state(words[0])
+        assert state.fault == 1 + kinds.index(words[2]), line
+        assert state.place in ((1, 3) if state.fault <= 2 else (2,)) and state.number >= 0 and (state.statement > 0) == (state.place == 3), line
         return
     program, scans, _, steps, _, cleared, _, actions = words
-    assert plc.state(program).scans == int(scans), line
+    state = plc.state(program)
+    assert state.scans == int(scans) and (state.fault, state.place, state.number, state.statement) == (0, 0, -1, 0), line
     wanted = {} if steps == "-" else dict(it.split("=") for it in steps.split(","))
     for name, elapsed in wanted.items():
         state = plc.state(program, "step", name)

@@ -34,6 +34,7 @@ note $? "c_library.c"
 "$work/try" places "$top/examples/pump.chart"; note $? "each type, area and size"
 "$work/try" tasks "$top/examples/belt.chart"; note $? "two tasks, by what comes next and up to an instant"
 "$work/try" ends "$top/examples/pump.chart"; note $? "a hit and a fault end it, with conditions that are read then"
+"$work/try" faults "$top/examples/pump.chart"; note $? "where the fault of a scan is, also behind resets and what was saved"
 "$work/try" saves "$top/examples/pump.chart"; note $? "what was saved is there again"
 "$work/try" forks "$top/examples/pump.chart"; note $? "1000 runs from one snapshot, each as from the opening"
 "$work/try" refusals "$top/examples/pump.chart"; note $? "each call with the n-th request for memory refused"
@@ -55,13 +56,13 @@ fi
 clean() { valgrind -q --error-exitcode=9 --leak-check=full --show-leak-kinds=all "$work/try" "$@"; }
 if command -v valgrind >/dev/null; then
   clean opens "$top/examples/lamp.chart" 100000; note $? "100000 openings under valgrind"
-  for part in misuse fields texts ends saves refusals; do clean "$part" "$top/examples/pump.chart"; note $? "$part under valgrind"; done
+  for part in misuse fields texts ends faults saves refusals; do clean "$part" "$top/examples/pump.chart"; note $? "$part under valgrind"; done
   clean tasks "$top/examples/belt.chart"; note $? "tasks under valgrind"
 else
   echo "not asked, valgrind isn't there: openings and each part under valgrind"
 fi
 if cc -fsanitize=address,undefined -O1 -std=c11 -I "$build" "$here/c_library.c" "$build/libsfc.a" "$wraps" -lpthread -o "$work/sane" 2>/dev/null; then
-  for part in misuse fields texts ends saves forks; do "$work/sane" "$part" "$top/examples/pump.chart"; note $? "$part with sanitizers"; done
+  for part in misuse fields texts ends faults saves forks; do "$work/sane" "$part" "$top/examples/pump.chart"; note $? "$part with sanitizers"; done
   "$work/sane" tasks "$top/examples/belt.chart" && "$work/sane" panel "$top/examples/mixing.chart"; note $? "tasks and types with sanitizers"
   "$work/sane" damaged "$top/examples/mixing.chart" 2000; note $? "2000 damaged texts with sanitizers"
 else
@@ -81,10 +82,20 @@ python3 "$here/python_bench.py" "$top"; note $? "what sfc.py is for a bench"
 for example in response interlock two_tasks snapshots; do
   python3 "$top/examples/python/$example.py" >"$work/example"; note $? "examples/python/$example.py"
 done
-if python3 -c 'import hypothesis, pytest' 2>/dev/null; then
-  (cd "$work" && python3 "$top/examples/python/planted_fault.py" >"$work/planted"); note $? "examples/python/planted_fault.py finds the planted fault"
-  (cd "$work" && PYTHONPATH="$build:$top/share/python" python3 -m pytest -q -p no:cacheprovider "$top/examples/python/test_mixing.py" \
-    "$top/examples/python/test_any_input.py" >"$work/pytest"); note $? "the tests under pytest, with any inputs"
+# The python3 that has hypothesis and pytest: that of the path, or the system's.
+tester=''
+for it in python3 /usr/bin/python3; do
+  if [ -z "$tester" ] && "$it" -c 'import hypothesis, pytest' 2>/dev/null; then tester=$it; fi
+done
+if [ -n "$tester" ]; then
+  (cd "$work" && "$tester" "$top/examples/python/planted_fault.py" >"$work/planted"); note $? "examples/python/planted_fault.py finds the planted fault"
+  (cd "$work" && "$tester" -m pytest -q -p no:cacheprovider "$top/examples/python/test_mixing.py" "$top/examples/python/test_any_input.py" \
+    >"$work/pytest"); note $? "the tests under pytest, with any inputs"
+  (cd "$work" && "$tester" "$here/python_hypothesis.py" "$top"); note $? "what sfc_hypothesis.py draws, and what it tells of a failure"
+  mkdir "$work/collected" && cp "$top/examples/pump.chart" "$here/pytest_plc.py" "$work/collected"
+  (cd "$work/collected" && "$tester" -m pytest -q -p no:cacheprovider -p pytest_sfctest pytest_plc.py >"$work/pytest")
+  [ $? = 1 ] && grep -q '^1 failed, 2 passed' "$work/pytest" && grep -q 'latest scans of plc' "$work/pytest" \
+    && grep -q '^T#200ms SCAN Main overruns 0$' "$work/pytest"; note $? "the fixture plc of pytest_sfctest, and the latest scans of a failure"
 else
   echo "not asked, hypothesis and pytest aren't there: the tests that they run"
 fi

@@ -12,7 +12,7 @@ HELD = 1_048_576
 LEAST = 1_200_000
 PAUSE = 0.2
 MOST_GROWTH = 4_096
-BUSY = re.compile(r"([0-9]+ T#\S+ SCAN \S+ overruns [0-9]+|lost [0-9]+ commands)")
+BUSY = re.compile(r"([0-9]+ T#\S+ SCAN \S+ overruns [0-9]+|lost [0-9]+ commands|known again behind [0-9]+ commands)")
 READ = re.compile(r"([0-9]+) T#\S+ READ Lamp (TRUE|FALSE)")
 CHART = """PROGRAM Blink
   INITIAL_STEP Dark: END_STEP

@@ -15,7 +15,7 @@ SEEN = 10
 MOST_GROWTH = 1_024
 MOST_MEMORY = 16_384
 LINE = re.compile(r"([0-9]+) T#\S+ ([A-Z]+)")
-BUSY = re.compile(r"([0-9]+ T#\S+ SCAN \S+ overruns [0-9]+|lost [0-9]+ commands)")
+BUSY = re.compile(r"([0-9]+ T#\S+ SCAN \S+ overruns [0-9]+|lost [0-9]+ commands|known again behind [0-9]+ commands)")
 INSTANCE = "PROGRAM P{0} WITH Task{0} : Mix;"
 CHART = """PROGRAM Mix
   VAR Count : INT; END_VAR

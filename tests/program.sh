@@ -809,13 +809,15 @@ dying() {
   status=${PIPESTATUS[1]}
   # without instants and numbers, and without overruns alone
   grep -vE '^[0-9]+ T#[^ ]+ SCAN Main overruns [0-9]+$' "$work/err" >"$work/rest"
-  grep -B1 -E '^  ' "$work/err" | sed -E 's/^[0-9]+ T#[^ ]+ //; s/overruns [0-9]+/overruns/; s/ [0-9]+ steps .*/ .. steps/' >"$work/told"
+  grep -B1 -E '^(  |; )' "$work/err" | sed -E 's/^[0-9]+ T#[^ ]+ //; s/overruns [0-9]+/overruns/; s/ [0-9]+ steps .*/ .. steps/' >"$work/told"
 }
 dying 'INPUT Start TRUE' '; it stands' '; and stands'
 ends 1 && grep -qxE 'audit ok [1-9][0-9]*' "$work/out" && [ "$(wc -l <"$work/out")" = 1 ] && [ "$(cat "$work/told")" = "SCAN Main overruns
   Divide1 fault DivZero
-  Blink1 .. steps" ] && [ "$(tail -n 1 "$work/err")" = "a program stood faulted at the end" ]
-note $? "a program that dies is told once, with the others of its scan, and the status is 1"
+  Blink1 .. steps
+; Divide1 ended with DivZero in statement 1 of action Work, and isn't scanned until RESET Divide1" ] \
+  && [ "$(tail -n 1 "$work/err")" = "a program stood faulted at the end" ]
+note $? "a program that dies is told once, with where its fault is and the others of its scan, and the status is 1"
 dying 'INPUT Start TRUE' 'INPUT Parts 2' 'RESET Divide1' '; it lives'
 ends 0 && [ "$(grep -c 'fault DivZero' "$work/err")" = 1 ] && ! grep -q 'stood faulted' "$work/err"
 note $? "a program that is reset behind its fault, and goes on"

@@ -16,6 +16,12 @@ FAULTY = b"""PROGRAM P VAR N : INT := 3; Q : INT; END_VAR INITIAL_STEP S: Count(
 ACTION Count: N := N - 1; Q := 6 / N; END_ACTION END_PROGRAM CONFIGURATION C RESOURCE R ON X
 VAR_GLOBAL Wait : TIME; Level AT %IW2 : INT; END_VAR
 TASK T(INTERVAL := T#10ms, PRIORITY := 1); PROGRAM I WITH T : P; END_RESOURCE END_CONFIGURATION"""
+PLACED = b"""PROGRAM P VAR N : INT; END_VAR INITIAL_STEP S: END_STEP STEP A: END_STEP STEP B: END_STEP
+TRANSITION FROM S TO A := N > 0; END_TRANSITION TRANSITION Out FROM S TO B := 1 / N = 0; END_TRANSITION END_PROGRAM
+PROGRAM Q INITIAL_STEP S: Lamp(N); END_STEP END_PROGRAM
+PROGRAM H INITIAL_STEP S: Lamp(N); Heater(L, T#1s); Heater(D, T#1s); END_STEP END_PROGRAM CONFIGURATION C RESOURCE R ON X
+VAR_GLOBAL Lamp, Heater : BOOL; END_VAR TASK T(INTERVAL := T#10ms, PRIORITY := 1);
+PROGRAM I WITH T : P; PROGRAM J WITH T : Q; PROGRAM K WITH T : H; END_RESOURCE END_CONFIGURATION"""
 
 
 def raises(kind, call, *words):
@@ -68,12 +74,32 @@ def values():
 
 def faults():
     with Plc(FAULTY) as plc:
-        fault = raises(sfc.ScanFault, lambda: plc.advance(ms(100)), "I DivZero at T#20ms")
+        assert plc.programs["I"].fault is None and plc.programs["I"].fault_place is None
+        fault = raises(sfc.ScanFault, lambda: plc.advance(ms(100)), "I ended with DivZero in statement 2 of action Count at T#20ms")
         assert fault.faults == {"I": "DivZero"} and plc.now == 20_000 and plc.programs["I"].fault == "DivZero"
+        assert fault.places == {"I": ("body", "Count", 0, 2)} and plc.programs["I"].fault_place == fault.places["I"]
+        there = plc.snapshot()
         plc.programs["I"].reset()
-        raises(sfc.ScanFault, lambda: plc.run("T", ms(200)), "I DivZero at T#50ms")
+        assert plc.programs["I"].fault_place is None
+        raises(sfc.ScanFault, lambda: plc.run("T", ms(200)), "I ended with DivZero in statement 2 of action Count at T#50ms")
+        plc.programs["I"].reset()
+        there.restore()
+        assert plc.programs["I"].fault_place == fault.places["I"]
     with Plc(FAULTY, raises=False) as plc:
         assert plc.advance(ms(100)).end == sfc.FAULT and plc.programs["I"].fault == "DivZero"
+
+
+def places():
+    """Each kind of place, by names. In the first scan a step becomes active; the conditions behind it are read in the second, with N of 0."""
+    with Plc(PLACED, raises=False) as plc:
+        assert plc.advance(0).end == sfc.FAULT and plc.programs["K"].fault_place == ("control", "Heater", 1, None)
+        assert str(plc.programs["K"].fault_place) == "in the control of action Heater" and plc.programs["K"].fault == "TwoTimed"
+        assert plc.advance(ms(10)).end == sfc.FAULT and plc.programs["I"].fault_place == ("condition", "Out", 1, None)
+        assert str(plc.programs["I"].fault_place) == "in the condition of transition 2 (Out)" and plc.programs["J"].fault is None
+        assert plc.programs["J"].fault_place is None
+    with Plc(PLACED.replace(b"TRANSITION Out", b"TRANSITION")) as plc:
+        raises(sfc.ScanFault, lambda: plc.advance(0), "K ended with TwoTimed in the control of action Heater at T#0s")
+        raises(sfc.ScanFault, lambda: plc.advance(ms(10)), "I ended with DivZero in the condition of transition 2 at T#10ms")
 
 
 def clock():
@@ -154,6 +180,7 @@ names()
 values()
 conditions()
 faults()
+places()
 clock()
 going_back()
 scripts(os.environ.get("SFCMON"))

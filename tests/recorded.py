@@ -3,7 +3,7 @@
 breakpoints and brings faults about, and records it in parts. A replay of the parts, one behind the other, is to write the lines that the run
 wrote, and so is a session of `debug` that is given them; a record that is cut at a byte of its last kilobyte is to be a script of a front of
 these lines, up to its last whole line. Then what becomes of a record whose file is there, that can't be written any more, and whose run lost
-lines. The last line is 'N passed, M failed'."""
+lines; and that it is known again then how all stands. The last line is 'N passed, M failed'."""
 import os
 import random
 import re
@@ -12,6 +12,7 @@ import signal
 import subprocess
 import sys
 import tempfile
+import threading
 import time
 from pathlib import Path
 
@@ -54,6 +55,19 @@ TASK Main(INTERVAL := T#0.001ms, PRIORITY := 1);
 PROGRAM Blink1 WITH Main : Blink;
 END_RESOURCE END_CONFIGURATION
 """
+AGAIN = """PROGRAM Blink
+  INITIAL_STEP Dark: END_STEP
+  STEP Lit: Lamp(N); END_STEP
+  TRANSITION FROM Dark TO Lit := Start; END_TRANSITION
+  TRANSITION FROM Lit TO Dark := NOT Start; END_TRANSITION
+END_PROGRAM
+CONFIGURATION C RESOURCE R ON Plc
+VAR_GLOBAL Start AT %IX0.0 : BOOL; Lamp AT %QX0.0 : BOOL; END_VAR
+TASK Main(INTERVAL := T#0.001ms, PRIORITY := 1);
+PROGRAM Blink1 WITH Main : Blink;
+END_RESOURCE END_CONFIGURATION
+"""
+KNOWN = re.compile(r"known again behind [0-9]+ commands")
 # What a session says; a number stands for one of these.
 LINES = [
     "INPUT Start TRUE", "INPUT Start FALSE", "INPUT Held TRUE", "INPUT Held FALSE", "INPUT Parts {}", "INPUT Parts 0", "FORCE Start TRUE",
@@ -234,11 +248,74 @@ def lose_lines(folder):
          and 1000 < len(kept) < len(commands) and kept == commands[:len(kept)], "a record whose run lost lines")
 
 
+def until(stream, wanted, seconds=60):
+    """The lines that come up to one of which this holds, and whether it came. What is written is taken as it comes."""
+    lines, end = [], time.monotonic() + seconds
+    while time.monotonic() < end:
+        line = stream.readline().decode()
+        if not line:
+            return lines, False
+        lines.append(line.rstrip("\n"))
+        if wanted(lines[-1]):
+            return lines, True
+    return lines, False
+
+
+def know_again(folder):
+    """Nobody takes the lines for a while, in which an input changes and the resource is halted. As soon as no line waits it is known again how
+    all stands: what has changed meanwhile is shown, what is asked is answered, but for the breakpoints, and what comes then is shown."""
+    chart = folder / "again.chart"
+    chart.write_text(AGAIN)
+    with open(folder / "err", "w+b") as errors:
+        child = subprocess.Popen([program, "run", "--show", "changes", "--trace", "127", "--record", folder / "again.record", chart],
+                                 stdin=subprocess.PIPE, stdout=subprocess.PIPE, stderr=errors)
+        say = lambda text: (child.stdin.write(text.encode()), child.stdin.flush())
+        # Nothing waits for ever: where it takes too long, its end is what is read.
+        watchdog = threading.Timer(120, child.kill)
+        watchdog.start()
+        front, has_come = [], False
+        for seconds in (2, 4, 8, 16):
+            time.sleep(seconds)
+            say("INPUT Start TRUE\n")
+            time.sleep(0.5)
+            say("STOP\n")
+            time.sleep(0.5)
+            # That lines were lost is known by the next one that comes.
+            threading.Timer(0.5, say, ["READ Start\n"]).start()
+            front, _ = until(child.stdout, lambda line: KNOWN.fullmatch(line) or line.endswith(" STOP"))
+            has_come = KNOWN.fullmatch("".join(front[-1:])) is not None
+            if has_come or not front:
+                break
+            # On a busy machine no line was lost: once more, for longer.
+            time.sleep(1)
+            say("INPUT Start FALSE\nGO\n")
+        say("POINTS\nSHOW\nIMAGE Lamp\n")
+        answers, has_read = until(child.stdout, lambda line: line == "image Lamp TRUE")
+        say("INPUT Start FALSE\nGO\n")
+        _, has_changed = until(child.stdout, lambda line: line == "Lamp FALSE")
+        say("END\n")
+        child.stdin.close()
+        rest = child.stdout.read().decode()
+        status = child.wait()
+        watchdog.cancel()
+    told = (folder / "err").read_text().splitlines()
+    known = [line for line in told if KNOWN.fullmatch(line)]
+    shown = (answers + ["", ""])[:2]
+    note(has_come and has_read and has_changed and status == 0 and re.search(r"audit ok [0-9]+\n$", rest) is not None
+         and front[-1] in known and sum(line.startswith("lost ") for line in told) >= 1, "a run whose lost lines are known again")
+    note(re.fullmatch(r"  Blink1 .*run Lamp", shown[0]) is not None and shown[1] == "Lamp TRUE" and "Lamp TRUE" not in front,
+         "what has changed in lost lines is shown")
+    note(any("isn't known which breakpoints are set" in line for line in answers) and any(line.endswith(" halted") for line in answers),
+         "what is asked behind lost lines is answered")
+    note(told.count("the record has ended: commands were lost") == 1, "a record doesn't go on behind lost lines")
+
+
 with tempfile.TemporaryDirectory() as name:
     record_whole(Path(name))
     refuse_files(Path(name))
     fail_writes(Path(name))
     close_output(Path(name))
     lose_lines(Path(name))
+    know_again(Path(name))
 print(f"{passed} passed, {failed} failed")
 sys.exit(failed > 0)

@@ -7,6 +7,7 @@
 
 /** @typedef {string | Uint8Array} Text */
 /** @typedef {{code: number, text: string}} Told */
+/** @typedef {{scans: number, fault: number, place: number, number: number, statement: number}} ProgramState */
 /** @typedef {{bytes: Uint8Array, fixed: bigint, handle: bigint, out: bigint, room: number}} Saved */
 
 /** Kinds, as in sfc.h. */
@@ -15,6 +16,8 @@ export const KIND = Object.freeze({step: 0, transition: 1, action: 2, variable: 
 export const CODE = Object.freeze({done: 0, closed: -1, noValue: -2, unknown: -3, memory: -4, noLine: -5, short: -6, large: -7});
 /** Modes, as in sfc.h. */
 export const MODE = Object.freeze({running: 0, halted: 1, ended: 2});
+/** In what the fault of a scan is, as in sfc.h. */
+export const PLACE = Object.freeze({none: 0, condition: 1, control: 2, body: 3});
 /** The condition of a breakpoint that waits for none. */
 export const NO_CONDITION = 65535;
 
@@ -170,11 +173,16 @@ export class Sfc {
     return {next: Number(view.getBigInt64(at, true)), overruns: Number(view.getBigUint64(at + 8, true))};
   }
 
-  /** @param {number} program */
+  /**
+   * How a program stands: the scans of its life, and the fault that ended one since its latest reset, 0 for none. Where that is: `place` is
+   * one of PLACE, `number` that of the transition or the action, -1 for none, and `statement` counts from 1 in a body, and is 0 elsewhere.
+   * @param {number} program
+   * @returns {ProgramState | null}
+   */
   program(program) {
     if (this.lib.sfc_program_state(this.handle, program, this.fixed)) return null;
-    const view = this.view(), at = Number(this.fixed);
-    return {scans: Number(view.getBigUint64(at, true)), fault: view.getInt32(at + 8, true)};
+    const view = this.view(), at = Number(this.fixed), int = behind => view.getInt32(at + behind, true);
+    return {scans: Number(view.getBigUint64(at, true)), fault: int(8), place: int(12), number: int(16), statement: int(20)};
   }
 
   /**

@@ -31,7 +31,7 @@ def station(path):
 def found(machine):
     """The script of the shortest example that doesn't hold; nothing where none is found."""
     try:
-        run_state_machine_as_test(machine, settings=settings(max_examples=60, stateful_step_count=8, deadline=None, database=None))
+        run_state_machine_as_test(machine, settings=settings(max_examples=300, stateful_step_count=8, deadline=None, database=None))
     except AssertionError:
         return machine.script
     return ""

@@ -2,8 +2,9 @@
 latest scans of each chart that a failed test had.
 
 Load it by `pytest -p pytest_sfctest`, or in a conftest.py by `pytest_plugins = ["pytest_sfctest"]`. A file of tests is run on the chart of
-its name beside it, NAME.chart, or on the one that `sfc_chart` of pytest's configuration names. The program is sfcmon, or what SFCMON names.
-`plc` is that chart too, or the one of a mark `@pytest.mark.sfc_chart("pump.chart")`, a path from the test's folder on.
+its name beside it, NAME.chart, or on the one that `sfc_chart` of pytest's configuration names, a path from the folder of that configuration
+on. The program is sfcmon, or what SFCMON names. `plc` is that chart too, or the one of a mark `@pytest.mark.sfc_chart("pump.chart")`, a path
+from the test's folder on.
 """
 
 import os
@@ -20,13 +21,20 @@ def pytest_configure(config):
     config.addinivalue_line("markers", "sfc_chart(path): the chart of the fixture plc, from the test's folder on")
 
 
+def chart_of(config):
+    """The chart that the configuration names, if it names one."""
+    named = config.getini("sfc_chart")
+    folder = config.inipath.parent if config.inipath else config.invocation_params.dir
+    return folder / named if named else None
+
+
 @pytest.fixture
 def plc(request):
     """The chart, newly opened."""
     from sfc import Plc
 
     mark = request.node.get_closest_marker("sfc_chart")
-    path = request.path.parent / mark.args[0] if mark else request.config.getini("sfc_chart")
+    path = request.path.parent / mark.args[0] if mark else chart_of(request.config)
     if not path:
         pytest.fail("neither a mark sfc_chart nor the configuration names a chart", pytrace=False)
     with Plc.of(str(path)) as opened:
@@ -55,7 +63,7 @@ class Tests(pytest.File):
     told = None
 
     def run(self, *words):
-        chart = self.config.getini("sfc_chart") or self.path.with_suffix(".chart")
+        chart = chart_of(self.config) or self.path.with_suffix(".chart")
         command = [os.environ.get("SFCMON", "sfcmon"), "test", *words, str(chart), str(self.path)]
         return subprocess.run(command, stdin=subprocess.DEVNULL, capture_output=True, text=True, errors="replace", check=False)
 

@@ -27,6 +27,7 @@ MODES = ["running", "halted", "ended"]
 TYPES = ["BOOL", "INT", "DINT", "TIME"]
 AREAS = [None, "input", "output", "memory"]
 SCAN_FAULTS = [None, "DivZero", "Range", "TwoTimed", "SdWhileSl", "SlWhileSd"]
+PLACES = [None, "condition", "control", "body"]
 LIMITS = [None, "Steps", "Transitions", "Associations", "Variables", "Instances", "Tasks"]
 RANGES = [(0, 1), (-(2**15), 2**15 - 1), (-(2**31), 2**31 - 1), (-(2**62), 2**62)]
 REACHED, HIT, FAULT, GOES_ON = range(4)
@@ -108,7 +109,7 @@ class TaskState(c.Structure):
 
 
 class ProgramState(c.Structure):
-    _fields_ = [("scans", c.c_uint64), ("fault", c.c_int32)]
+    _fields_ = [("scans", c.c_uint64), ("fault", c.c_int32), ("place", c.c_int32), ("number", c.c_int32), ("statement", c.c_int32)]
 
 
 class PointState(c.Structure):
@@ -137,12 +138,30 @@ class ChartRefused(Refused):
         return self.report.rstrip("\n")
 
 
-class ScanFault(Exception):
-    """The scan of a program ended with a fault: of each such program the kind, by its name, and the instant."""
+class FaultPlace(NamedTuple):
+    """Where the fault of a scan is. `kind` is "condition" of a transition, "control" of an action, in which two associations don't go
+    together, or "body" of a declared action; then the name of that transition or action, empty of a transition without one, and its
+    number, from 0; and in a body the statement, counted from 1. What stands in an IF is part of it."""
 
-    def __init__(self, faults: dict[str, str], instant: int):
-        super().__init__(", ".join(f"{name} {kind}" for name, kind in faults.items()) + f" at {time_text(instant)}")
-        self.faults, self.instant = faults, instant
+    kind: str
+    name: str
+    number: int
+    statement: Optional[int] = None
+
+    def __str__(self) -> str:
+        if self.kind == "condition":
+            return f"in the condition of transition {self.number + 1}" + (f" ({self.name})" if self.name else "")
+        part = "the control" if self.statement is None else f"statement {self.statement}"
+        return f"in {part} of action {self.name}"
+
+
+class ScanFault(Exception):
+    """The scan of a program ended with a fault: of each such program the kind and the place, by its name, and the instant."""
+
+    def __init__(self, faults: dict[str, str], places: dict[str, FaultPlace], instant: int):
+        told = ", ".join(f"{name} ended with {kind} {places[name]}" for name, kind in faults.items())
+        super().__init__(f"{told} at {time_text(instant)}")
+        self.faults, self.places, self.instant = faults, places, instant
 
 
 class TimedOut(AssertionError):
@@ -352,6 +371,11 @@ class Program:
         """The kind of the fault that ended a scan since its latest reset, or None."""
         return SCAN_FAULTS[self._plc.state(self.name).fault]
 
+    @property
+    def fault_place(self) -> Optional[FaultPlace]:
+        """Where that fault is, or None."""
+        return self._plc.fault_place(self.name)
+
     def __getitem__(self, name: str) -> Value:
         """What a variable reads that the program declares for itself."""
         return self._plc[f"{self.name}.{name}"]
@@ -530,8 +554,8 @@ class Plc:
 
     def _faults(self, bits: int, instant: int) -> None:
         if bits and self.raises:
-            names = self.names("program")
-            raise ScanFault({name: SCAN_FAULTS[self.state(name).fault] for k, name in enumerate(names) if bits >> k & 1}, instant)
+            ended = [self.programs[name] for k, name in enumerate(self.names("program")) if bits >> k & 1]
+            raise ScanFault({it.name: it.fault for it in ended}, {it.name: it.fault_place for it in ended}, instant)
 
     def scan(self, task: str, t: Optional[Time] = None) -> Reply:
         """Scans a task that is due."""
@@ -786,6 +810,18 @@ class Plc:
             return _done(_LIB.sfc_program_state(self.handle, self.program(program), state), state)
         state = PointState()
         return _done(_LIB.sfc_point_state(self.handle, *self.point(program, kind, name), state), state, f"{kind} {name} of {program}")
+
+    def fault_place(self, program: str) -> Optional[FaultPlace]:
+        """Where the fault is that ended a scan of a program since its latest reset, or None."""
+        state = self.state(program)
+        kind = PLACES[state.place]
+        if kind is None:
+            return None
+        name, of = "", KINDS["transition" if kind == "condition" else "action"]
+        if state.number >= 0:
+            code, name = _text(_LIB.sfc_name, self.handle, of, self.program(program), state.number)
+            _done(code)
+        return FaultPlace(kind, name, state.number, state.statement or None)
 
     def active(self, program: str) -> list[str]:
         """The names of the program's active steps."""

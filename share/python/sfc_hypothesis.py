@@ -39,9 +39,23 @@ def inputs(plc: Plc) -> st.SearchStrategy[tuple[str, Value]]:
     return st.sampled_from(plc.inputs).flatmap(lambda it: st.tuples(st.just(it.name), values(it)))
 
 
-def durations(longest: timedelta = timedelta(seconds=1)) -> st.SearchStrategy[timedelta]:
-    """How long the inputs stay: whole milliseconds."""
-    return st.integers(1, max(1, micros(longest) // 1000)).map(lambda n: timedelta(milliseconds=n))
+def durations(longest: timedelta = timedelta(seconds=1), cycle: timedelta = timedelta(milliseconds=1)) -> st.SearchStrategy[timedelta]:
+    """How long the inputs stay: any whole milliseconds. They are drawn as so many whole cycles and a rest, of which each shrinks by itself: so
+    a wait shrinks to few scans also where a later one has to reach the next."""
+    most = max(1, micros(longest) // 1000)
+    whole = min(most, max(1, micros(cycle) // 1000))
+    cycles, rests = st.integers(0, (most - 1) // whole), st.integers(1, whole)
+    return st.tuples(cycles, rests).map(lambda it: timedelta(milliseconds=min(most, it[0] * whole + it[1])))
+
+
+def cycle_of(text: bytes) -> timedelta:
+    """The time from the first scan of a chart to the next, which is the least INTERVAL of its tasks; a millisecond where none comes."""
+    with Plc(text, raises=False) as plc:
+        coming = plc.next
+        while coming and coming[0] == 0:
+            plc.advance(0)
+            coming = plc.next
+        return timedelta(microseconds=coming[0]) if coming else timedelta(milliseconds=1)
 
 
 def bench(path: str, conditions: bytes = b"", longest: timedelta = timedelta(seconds=1), given: Optional[Callable[[Plc], Any]] = None) -> Any:
@@ -50,7 +64,7 @@ def bench(path: str, conditions: bytes = b"", longest: timedelta = timedelta(sec
     with open(path, "rb") as file:
         text = file.read()
     with Plc(text, conditions) as known:
-        steps = st.lists(inputs(known), max_size=2)
+        steps, times = st.lists(inputs(known), max_size=2), durations(longest, cycle_of(text))
 
     class Bench(RuleBasedStateMachine):
         script = ""
@@ -64,7 +78,7 @@ def bench(path: str, conditions: bytes = b"", longest: timedelta = timedelta(sec
             if given:
                 given(self.plc)
 
-        @rule(pressed=steps, time=durations(longest))
+        @rule(pressed=steps, time=times)
         def go_on(self, pressed: list[tuple[str, Value]], time: timedelta) -> None:
             """Writes inputs, and lets the clock go on."""
             try:

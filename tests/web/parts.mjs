@@ -1,4 +1,4 @@
-// parts.mjs: the parts of the page that need no page: times, links, listings, reports, dumps. The last line is 'N passed, M failed'.
+// parts.mjs: the parts of the page that need no page: times, links, listings, states, reports, dumps. The last line is 'N passed, M failed'.
 import {readTime, timeText} from '../../web/time.js';
 import {readLink, writeLink} from '../../web/link.js';
 import {readListing} from '../../web/listing.js';
@@ -6,6 +6,7 @@ import {readReports} from '../../web/reports.js';
 import {readDump} from '../../web/waves.js';
 import {enabledOf, readPoints, readWhy} from '../../web/asking.js';
 import {piecesOf} from '../../web/words.js';
+import {PLACE, Sfc} from '../../web/sfc.js';
 
 let passed = 0, failed = 0;
 
@@ -56,6 +57,18 @@ END_CONFIGURATION
 same('variables', listing.variables.map(it => `${it.name} ${it.type} ${it.location}`), ['Lamp BOOL %QX0.1', 'A1.n INT ', 'A2.n INT ']);
 same('tasks', listing.tasks, [{name: 'Main', interval: 'T#10ms'}]);
 same('associations', listing.types.get('a').steps, [{name: 'Begin', actions: ['Lamp', 'Count']}]);
+
+// A program whose fault is in a body, laid out as sfc.h has sfc_program_state_t.
+const memory = new WebAssembly.Memory({initial: 1});
+const state = (_, program, at) => {
+  const view = new DataView(memory.buffer, Number(at), 24);
+  view.setBigUint64(0, 7n, true);
+  [1, 3, 2, 4].forEach((n, k) => view.setInt32(8 + 4 * k, n, true));
+  return program === 0 ? 0 : -3;
+};
+const module = new Sfc(/** @type {any} */ ({exports: {memory, sfc_take: () => 64n, sfc_program_state: state}}));
+same('how a program stands', module.program(0), {scans: 7, fault: 1, place: PLACE.body, number: 2, statement: 4});
+same('a program that is not there', module.program(1), null);
 
 const [fault] = readReports('chart:4:3: 4 Syntax: END_STEP\n    4 |   END_STEP\n      |   ^^^^^^^^\n  in: step Ready\n  mend: ;\n');
 const details = ['in: step Ready', 'mend: ;'];

@@ -2,7 +2,8 @@
 
 use crate::ending::Ending;
 use sfc_replay::replay_error::ReplayError;
-use sfc_test::suite::{Asked, Choice, Suite};
+use sfc_test::asked::{Asked, Choice};
+use sfc_test::suite::Suite;
 use std::alloc::{AllocError, Global};
 
 // Takes over how a command ended, behind these words.

@@ -7,6 +7,8 @@ use Rattle.sfc_plant.specs.declared.association.Qualifier.TheVariants.{NonStored
 use Rattle.sfc_plant.specs.declared.association.Time.TheVariants.{Literal}
 use Rattle.sfc_tables.specs.declared.step_action.StepAction.{StepAction}
 use Rattle.sfc_tables.specs.Tables.{Tabled}
+use Rattle.sfc_action.specs.declared.fault.ActionFault.{ActionFault}
+use Rattle.sfc_action.specs.declared.fault.ControlFault.{ControlFault}
 use Rattle.sfc_action.specs.declared.fault.ControlFault.TheVariants.{TwoTimed, SdWhileSl, SlWhileSd}
 use Rattle.sfc_action.specs.ActionControl.{Scan, q, executed, first_fault}
 
@@ -146,19 +148,22 @@ clashing =
 abbrev at_step : Bool → Bool → Scan
 at_step first second = record { active = first ∷ second ∷ []; times = twenty 4; at = pos 0 }
 
+abbrev of : ℕ → ControlFault → ActionFault
+of a fault = record { action = record { 0 = a }; fault = fault }
+
 -- SL of action 2 is stored by the scan before, and comes first in the text
-stored_limit : first_fault clashing (at_step false true ∷ at_step true false ∷ []) ≡ Some SdWhileSl
+stored_limit : first_fault clashing (at_step false true ∷ at_step true false ∷ []) ≡ Some (of 2 SdWhileSl)
 stored_limit = refl
 
-both : first_fault clashing (at_step true true ∷ []) ≡ Some TwoTimed
+both : first_fault clashing (at_step true true ∷ []) ≡ Some (of 2 TwoTimed)
 both = refl
 
-second_step : first_fault clashing (at_step false true ∷ []) ≡ Some TwoTimed
+second_step : first_fault clashing (at_step false true ∷ []) ≡ Some (of 0 TwoTimed)
 second_step = refl
 
 no_fault : first_fault clashing (at_step true false ∷ []) ≡ None
 no_fault = refl
 
 other_way : first_fault clashing (at_step true false ∷ record { active = false ∷ true ∷ []; times = twenty 4; at = pos 0 } ∷ [])
-    ≡ Some SlWhileSd
+    ≡ Some (of 2 SlWhileSd)
 other_way = refl

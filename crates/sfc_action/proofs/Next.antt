@@ -14,6 +14,8 @@ use Rattle.sfc_plant.specs.declared.association.Qualifier.TheVariants as qualifi
 use Rattle.sfc_tables.specs.declared.step_action.StepAction.{StepAction}
 use Rattle.sfc_tables.specs.Tables.{Tabled, AreTables}
 use Rattle.sfc_evolve.specs.Lookback.{or_else}
+use Rattle.sfc_base.specs.declared.ids.ActionNumber.{ActionNumber}
+use Rattle.sfc_action.specs.declared.fault.ActionFault.{ActionFault}
 use Rattle.sfc_action.specs.declared.fault.ControlFault.{ControlFault}
 use Rattle.sfc_action.specs.declared.timed.Timed.{Timed}
 use Rattle.sfc_action.specs.declared.inputs.Inputs.{Inputs}
@@ -22,7 +24,7 @@ use Rattle.sfc_action.specs.declared.blocks.Block.{Block}
 use Rattle.sfc_action.specs.declared.control_state.ControlState.{ControlState}
 use Rattle.sfc_action.specs.ActionControl.{Scan, Letter, N, R, S, L, D, P, SD, DS, SL, P1, P0, is, acts, is_timed, input, preset}
 use Rattle.sfc_action.specs.ActionControl.{stored, on_delay, delayed, delayed_then_stored, q, executed, acting_times}
-use Rattle.sfc_action.specs.ActionControl.{fault_by, fault_of, first_in, first_fault}
+use Rattle.sfc_action.specs.ActionControl.{fault_by, fault_of, fault_with, first_in, first_fault}
 use Rattle.sfc_action.specs.Private.TimedSets.{none, by}
 use Rattle.sfc_action.specs.Private.Marking.{cleared, marked_at, presets_at, IsWithin}
 use Rattle.sfc_action.specs.Private.Storing.{AreNext}
@@ -65,9 +67,10 @@ are_scan_inputs tables sound scan ps new_ps i et ep ei en =
     rw (ei, en) scan_input
 
 -- neither of two faults is one
-both_none : (o rest : Option ControlFault) → or_else o rest ≡ None → (o ≡ None) × (rest ≡ None)
-both_none None rest e = (refl, e)
-both_none (Some f) rest e = absurd cc
+both_none : (action : ActionNumber) (o : Option ControlFault) (rest : Option ActionFault) → or_else (fault_with action o) rest ≡ None
+    → (o ≡ None) × (rest ≡ None)
+both_none action None rest e = (refl, e)
+both_none action (Some f) rest e = absurd cc
 
 -- ---- flip-flops
 
@@ -108,7 +111,7 @@ module _ (tables : Tabled) (state : ControlState) (scan : Scan) (h : List Scan) 
   faults_in [] below = refl
   faults_in (x ∷ xs) below =
       let here = All-head (λ (x : StepAction). x.action.0 < n) x xs below in
-      (λ k. or_else (fault_is x.action.0 here k) (faults_in xs (All-tail (λ (x : StepAction). x.action.0 < n) x xs below) k))
+      (λ k. or_else (fault_with x.action (fault_is x.action.0 here k)) (faults_in xs (All-tail (λ (x : StepAction). x.action.0 < n) x xs below) k))
 
   pub first_fault_is : AreTables tables → first_in (fault_at i next) tables.associations ≡ first_fault tables h'
   first_fault_is sound = faults_in tables.associations (λ k d lt. (sound.associations k d lt).action)
@@ -119,7 +122,7 @@ none_at : (fault : ℕ → Option ControlFault) (xs : List StepAction) (a : ℕ)
     → list_any (λ x. x.action.0 == a) xs ≡ true → fault a ≡ None
 none_at fault [] a e there = absurd (let bad : false ≡ true = there in cc)
 none_at fault (x ∷ xs) a e there =
-    let parts = both_none (fault x.action.0) (first_in fault xs) e in
+    let parts = both_none x.action (fault x.action.0) (first_in fault xs) e in
     elim (bool_cases (x.action.0 == a)) [
       | inl here ↦ (let same : x.action.0 ≡ a = grind (arith, nat_tests) in ap fault (sym same) ∙ parts.0)
       | inr later ↦ none_at fault xs a parts.1 (rw later at there)

@@ -21,7 +21,7 @@ use Rattle.sfc_action.specs.declared.control_state.ControlState.{ControlState}
 use Rattle.sfc_action.specs.declared.fault.ControlFault.{ControlFault}
 use Rattle.sfc_action.specs.Private.DelayLists.{same_timed}
 use Rattle.sfc_action.specs.ActionControl.{Scan, N, R, S, L, P, SD, DS, SL, P1, P0, input, stored, delayed, delayed_then_stored}
-use Rattle.sfc_action.specs.ActionControl.{preset, q, executed, fault_of, fault_by, is_two_timed, first_in, first_fault}
+use Rattle.sfc_action.specs.ActionControl.{preset, q, executed, fault_of, fault_by, fault_with, is_two_timed, first_in, first_fault}
 use Rattle.sfc_action.specs.Agreement.{ControlsAgree}
 use Rattle.sfc_action.specs.Past.{DelayPast, delay_past, action_past, controls_past, delay_in, action_in, past_in}
 use Rattle.sfc_action.specs.Private.Keeping.{is_of, called, readings, IsCovered, BlockAgrees}
@@ -237,7 +237,7 @@ first_same f g n [] same below = refl
 first_same f g n (x ∷ xs) same below =
     let here = same x.action.0 (All-head (λ (x : StepAction). x.action.0 < n) x xs below) in
     let rest = first_same f g n xs same (All-tail (λ (x : StepAction). x.action.0 < n) x xs below) in
-    (λ i. or_else (here i) (rest i))
+    (λ i. or_else (fault_with x.action (here i)) (rest i))
 
 pub fault_cut : (tables : Tabled) (scan : Scan) (h other : List Scan) → AreTables tables
     → controls_past tables h ≡ controls_past tables other → first_fault tables (scan ∷ h) ≡ first_fault tables (scan ∷ other)

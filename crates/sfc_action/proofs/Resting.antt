@@ -19,7 +19,7 @@ use Rattle.sfc_action.specs.declared.blocks.Block.{Block}
 use Rattle.sfc_action.specs.declared.control_state.ControlState.{ControlState}
 use Rattle.sfc_action.specs.ActionControl.{Scan, Letter, N, R, S, L, D, P, SD, DS, SL, P1, P0, is, input, preset}
 use Rattle.sfc_action.specs.ActionControl.{stored, on_delay, delayed, delayed_then_stored, set_reset, column, q, executed}
-use Rattle.sfc_action.specs.ActionControl.{fault_by, fault_of, first_in, first_fault, is_two_timed}
+use Rattle.sfc_action.specs.ActionControl.{fault_by, fault_of, fault_with, first_in, first_fault, is_two_timed}
 use Rattle.sfc_action.specs.Past.{DelayPast, delay_in}
 use Rattle.sfc_action.specs.Private.Keeping.{AreFor, IsStateAfter, BlockAgrees, called, readings, is_of}
 use Rattle.sfc_action.specs.Private.Live.{IsIdle}
@@ -95,7 +95,7 @@ find_idle is (block ∷ blocks) rest = elim (bool_cases (is block)) [
 
 no_fault : (fault : ℕ → Option ControlFault) (xs : List StepAction) → ((a : ℕ) → fault a ≡ None) → first_in fault xs ≡ None
 no_fault fault [] none = refl
-no_fault fault (x ∷ xs) none = (λ i. or_else (none x.action.0 i) (no_fault fault xs none i))
+no_fault fault (x ∷ xs) none = (λ i. or_else (fault_with x.action (none x.action.0 i)) (no_fault fault xs none i))
 
 not_more : (n : ℕ) → n ≤ 1 → nat_lt 1 n ≡ false
 not_more n le = grind (arith, nat_tests)

@@ -12,6 +12,8 @@ use Rattle.sfc_plant.specs.declared.association.Qualifier.TheVariants.{RisingPul
 use Rattle.sfc_tables.specs.declared.step_action.StepAction.{StepAction}
 use Rattle.sfc_tables.specs.Tables.{Tabled}
 use Rattle.sfc_evolve.specs.Lookback.{or_else}
+use Rattle.sfc_base.specs.declared.ids.ActionNumber.{ActionNumber}
+use Rattle.sfc_action.specs.declared.fault.ActionFault.{ActionFault}
 use Rattle.sfc_action.specs.declared.fault.ControlFault.{ControlFault}
 use Rattle.sfc_action.specs.declared.fault.ControlFault.TheVariants.{TwoTimed, SdWhileSl, SlWhileSd}
 
@@ -174,11 +176,16 @@ fault_by false false false = None
 abbrev pub fault_of : Tabled → ℕ → List Scan → Option ControlFault
 fault_of tables a h = fault_by (is_two_timed tables a h) (sd_while_sl tables a h) (sl_while_sd tables a h)
 
+-- a fault, with the action that has it
+abbrev pub fault_with : ActionNumber → Option ControlFault → Option ActionFault
+fault_with action None = None
+fault_with action (Some fault) = Some (record { action = action; fault = fault })
+
 -- the fault of the first of these whose action has one
-abbrev pub first_in : (ℕ → Option ControlFault) → List StepAction → Option ControlFault
+abbrev pub first_in : (ℕ → Option ControlFault) → List StepAction → Option ActionFault
 first_in fault [] = None
-first_in fault (x ∷ xs) = or_else (fault x.action.0) (first_in fault xs)
+first_in fault (x ∷ xs) = or_else (fault_with x.action (fault x.action.0)) (first_in fault xs)
 
 -- the fault of a scan: of the actions by their first associations, the first that has one
-abbrev pub first_fault : Tabled → List Scan → Option ControlFault
+abbrev pub first_fault : Tabled → List Scan → Option ActionFault
 first_fault tables h = first_in (λ a. fault_of tables a h) tables.associations

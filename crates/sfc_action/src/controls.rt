@@ -46,7 +46,7 @@ ghost use Rattle.sfc_action.specs.declared.control_state.ControlState.{ControlSt
 ghost use Rattle.sfc_action.specs.Agreement.{IsFor, AreInputsOf, ControlsAgree, IsAlike, action_total, scan_input};
 
 use crate::associations::Associations;
-use crate::fault::ControlFault;
+use crate::fault::ActionFault;
 use crate::faults::first_fault;
 use crate::listing::list_blocks;
 use crate::singles::are_single;
@@ -84,7 +84,7 @@ impl Controls {
     /// matter. Times and instants are in microseconds, and instants from 0 to 2^62. It takes no memory.
     ///
     /// The error is the first fault: of the actions in the order of their first association in the text, that of the
-    /// first that has one. Then nothing has changed.
+    /// first that has one, and that action. Then nothing has changed.
     pub fn step(
         &mut self,
         tables: &Tables,
@@ -92,7 +92,7 @@ impl Controls {
         t: i64,
         associations: Associations<'_>,
         ticks: &mut Ticks,
-    ) -> Result<(), ControlFault>
+    ) -> Result<(), ActionFault>
         requires sizes { IsFor tables.now self.old }
         requires steps { step_total steps.now ≡ length tables.now.initial }
         requires step_inputs { AreInputsOf tables.now associations.step_inputs.now }

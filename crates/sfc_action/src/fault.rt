@@ -1,5 +1,7 @@
 //! Control faults.
 
+use sfc_base::ids::ActionNumber;
+
 /// Why a scan can't tell what an action's control block does (2.6.4.5).
 #[derive(Clone, Copy, Debug, PartialEq, Eq)]
 pub enum ControlFault {
@@ -9,4 +11,11 @@ pub enum ControlFault {
     SdWhileSl,
     /// The input SL is TRUE while SD is stored.
     SlWhileSd,
+}
+
+/// The fault of a scan, and the action whose control block has it.
+#[derive(Clone, Copy, Debug, PartialEq, Eq)]
+pub struct ActionFault {
+    pub action: ActionNumber,
+    pub fault: ControlFault,
 }

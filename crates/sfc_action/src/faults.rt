@@ -7,7 +7,7 @@ ghost use Rattle.sfc_action.specs.Private.Marking.{AreSized};
 ghost use Rattle.sfc_action.specs.Private.Storing.{AreStores};
 ghost use Rattle.sfc_action.specs.Private.Failing.{fault_at};
 
-use crate::fault::ControlFault;
+use crate::fault::{ActionFault, ControlFault};
 use crate::inputs::Inputs;
 use crate::stores::Stores;
 use sfc_base::qualifier::TimedQualifier;
@@ -36,13 +36,13 @@ fn fault_of(inputs: &Inputs, stores: &Stores, action: usize) -> Option<ControlFa
     }
 }
 
-// The fault of the first of these associations whose action has one.
+// The fault of the first of these associations whose action has one, and that action.
 fn search(
     inputs: &Inputs,
     stores: &Stores,
     associations: &[StepAction],
     ticks: &mut Ticks,
-) -> Option<ControlFault>
+) -> Option<ActionFault>
     requires inputs { AreSized (length inputs.now.any_time) inputs.now }
     requires stores { AreStores (length inputs.now.any_time) stores.now }
     requires actions { All (λ x. x.action.0 < length inputs.now.any_time) associations.now }
@@ -51,21 +51,22 @@ fn search(
 {
     for association in associations {
         ticks.tick();
-        if let Some(fault) = fault_of(inputs, stores, association.action.0) {
-            return Some(fault);
+        let action = association.action;
+        if let Some(fault) = fault_of(inputs, stores, action.0) {
+            return Some(ActionFault { action, fault });
         }
     }
     None
 }
 
-/// The fault of the first of these associations whose action has one. Where `is_faultless`, no action has one.
+/// The fault of the first of these associations whose action has one, and that action. Where `is_faultless`, no action has one.
 pub fn first_fault(
     is_faultless: bool,
     inputs: &Inputs,
     stores: &Stores,
     associations: &[StepAction],
     ticks: &mut Ticks,
-) -> Option<ControlFault>
+) -> Option<ActionFault>
     requires inputs { AreSized (length inputs.now.any_time) inputs.now }
     requires stores { AreStores (length inputs.now.any_time) stores.now }
     requires actions { All (λ x. x.action.0 < length inputs.now.any_time) associations.now }

@@ -1,12 +1,13 @@
 //! What holds of the definitions themselves. Each law is a function whose contract is the law; a body, where there is
 //! one, cites another law.
 
-ghost use Rattle.std.specs.Prelude.{◌≡◌, ◌<◌, ◌↔◌, not, ◌&&◌, ◌||◌, ◌∷◌, ◌++◌, ℕ, Bool, List, length, true, false};
+ghost use Rattle.std.specs.Prelude.{◌≡◌, ◌<◌, ◌↔◌, not, ◌&&◌, ◌||◌, ◌∷◌, ◌++◌, ℕ, Bool, List, length, true, false, Some};
 ghost use Rattle.sfc_tables.specs.Tables.{Tabled, AreTables};
 ghost use Rattle.sfc_action.specs.declared.control_state.ControlState.{ControlState};
 ghost use Rattle.sfc_action.specs.Agreement.{ControlsAgree};
 ghost use Rattle.sfc_action.specs.Past.{controls_past, past_in};
-ghost use Rattle.sfc_action.specs.ActionControl.{first_fault};
+ghost use Rattle.sfc_action.specs.declared.fault.ActionFault.{ActionFault};
+ghost use Rattle.sfc_action.specs.ActionControl.{fault_of, first_fault};
 ghost use Rattle.sfc_action.specs.ActionControl.{Scan, Letter, R, P1, P0, SD, DS, SL, input, q, executed, rises, falls};
 ghost use Rattle.sfc_action.specs.ActionControl.{stored, delayed, stored_then_delayed, delayed_then_stored};
 ghost use Rattle.sfc_action.specs.ScanNumbers.{IsStoredSince, HasActedSince, HasBeenStoredSince, IsStoredOnceDelayed};
@@ -61,6 +62,12 @@ pub fn overriding_reset()
     ensures no_q { (tables : Tabled) (a : ℕ) (h : List Scan) → input tables a R h ≡ true → q tables a h ≡ false }
     ensures unstored { (tables : Tabled) (a : ℕ) (letter : Letter) (h : List Scan) →
         input tables a R h ≡ true → stored tables a letter h ≡ false }
+{}
+
+/// The first fault of a scan is that of the control block of its action.
+pub fn first_fault_of_its_action()
+    ensures { (tables : Tabled) (h : List Scan) (first : ActionFault) → first_fault tables h ≡ Some first →
+        fault_of tables first.action.0 h ≡ Some first.fault }
 {}
 
 /// What is kept is the past of the scans: all that later answers need, and for all lists of scans of this past the same.

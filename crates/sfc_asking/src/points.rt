@@ -17,8 +17,10 @@ fn place_of(command: Command) -> Option<(ProgId, Point)> {
     }
 }
 
-// Follows an accepted command.
-fn follow(set: &mut Vec<TraceRow>, row: &TraceRow) -> Result<(), AllocError> {
+/// Takes the next accepted command behind these, each of which has set a breakpoint that is set: one that sets a breakpoint comes behind them,
+/// in place of that at the same point, if there is one, and one that takes it away drops that. So there are at most as many as breakpoints. The
+/// one error is that memory was refused; then the breakpoint's command isn't among them.
+pub fn follow(set: &mut Vec<TraceRow>, row: &TraceRow) -> Result<(), AllocError> {
     let Some(place) = place_of(row.command) else {
         return Ok(());
     };

@@ -11,6 +11,7 @@ use sfc_base::references::StepId;
 use sfc_base::ticks::Ticks;
 use sfc_expr::eval::eval;
 use sfc_expr::expr::Expr;
+use sfc_output::fault_place::append_faulted;
 use sfc_page::append::{append, append_number};
 use sfc_plant::chart::Transition;
 use sfc_plant::names::Names;
@@ -209,21 +210,6 @@ fn append_none(out: &mut Vec<u8>, asked: &Asked<'_>) -> Result<(), AllocError> {
     append_initial(out, asked)
 }
 
-// That an instance stands faulted, where it does.
-fn append_fault(out: &mut Vec<u8>, asked: &Asked<'_>) -> Result<(), AllocError> {
-    let Some(fault) = asked.view.fault() else {
-        return Ok(());
-    };
-    let name = asked.resource.plant().instance_name(asked.program);
-    append(out, b"; ")?;
-    append(out, name)?;
-    append(out, b" ended with ")?;
-    append(out, fault.name())?;
-    append(out, b", and isn't scanned until RESET ")?;
-    append(out, name)?;
-    append(out, b"\n")
-}
-
 // The lines of each transition behind an active step of an instance.
 fn append_program(
     alloc: Global,
@@ -234,7 +220,7 @@ fn append_program(
     let Some(asked) = find_asked(alloc, resource, program) else {
         return Ok(());
     };
-    append_fault(out, &asked)?;
+    append_faulted(out, &asked.view)?;
     if append_near(out, &asked)? == 0 {
         append_none(out, &asked)?;
     }
@@ -275,8 +261,8 @@ fn append_one(
 
 /// Puts at the end why transitions aren't cleared: of one of a program instance, by its name or number, or where none is given of each that has
 /// an active step before it, of one instance or of all. Of each it tells which steps before it are active, its condition, what that evaluates
-/// to, and what it reads, with the times of steps as of the latest scan. Of an instance that ended with a fault, had no scan in its life, or
-/// has no such transition, that is told. The one error is that memory was refused.
+/// to, and what it reads, with the times of steps as of the latest scan. Of an instance that ended with a fault it is told where that is; of one
+/// that had no scan in its life, or has no such transition, that. The one error is that memory was refused.
 pub fn append_why(
     alloc: Global,
     out: &mut Vec<u8>,

@@ -1,14 +1,18 @@
 -- What is read without a command: what the rules say of the commands that were accepted.
 use Rattle.std.specs.Prelude.{◌≡◌, ℕ, nat_lt, cond, is_some, List, length, map, take, drop, MatchBool}
-use Rattle.std.specs.Prelude.{ℤ, pos, negsuc, Option, Some, None}
+use Rattle.std.specs.Prelude.{◌+◌, ℤ, pos, negsuc, Option, Some, None}
 use Rattle.std.specs.List.{range_with_len}
 use Rattle.sfc_base.specs.declared.ids.ProgId.{ProgId}
 use Rattle.sfc_base.specs.declared.ids.TaskId.{TaskId}
 use Rattle.sfc_base.specs.declared.ids.VarId.{VarId}
+use Rattle.sfc_plant.specs.declared.association.Target.TheVariants.{Declared}
 use Rattle.sfc_plant.specs.Plants.{PlantData}
 use Rattle.sfc_plant.specs.Finding.{chart_of}
+use Rattle.sfc_replay.specs.sfc_tables.Actions.{number_of}
 use Rattle.sfc_replay.specs.sfc_tables.Tables.{Tabled, tables_of}
 use Rattle.sfc_replay.specs.sfc_image.Values.{variable_count}
+use Rattle.sfc_replay.specs.sfc_instance.declared.fault_place.FaultPlace.{FaultPlace}
+use Rattle.sfc_replay.specs.sfc_instance.declared.fault_place.FaultPlace.TheVariants as places
 use Rattle.sfc_replay.specs.sfc_instance.declared.scan_fault.ScanFault.{ScanFault}
 use Rattle.sfc_replay.specs.sfc_instance.FaultNames.{fault_number}
 use Rattle.sfc_replay.specs.sfc_instance.Life.{InstanceState}
@@ -31,6 +35,7 @@ use Rattle.sfc_c.specs.declared.image.VariableState.{VariableState}
 use Rattle.sfc_c.specs.declared.tasks.TaskState.{TaskState}
 use Rattle.sfc_c.specs.declared.showing.PointState.{PointState}
 use Rattle.sfc_c.specs.Codes.{told, flag, mode_number, instant_or_none, too_short}
+use Rattle.sfc_c.specs.Found.{number_of_place}
 use Rattle.sfc_c.specs.Handles.{events_of}
 
 -- what is there is given, with 0; where nothing is there, -3 is answered and nothing given
@@ -98,13 +103,45 @@ abbrev pub scan_fault_number : Option ScanFault → ℤ
 scan_fault_number None = pos 0
 scan_fault_number (Some fault) = pos (fault_number fault)
 
-abbrev pub state_in : InstanceState → ProgramState
-state_in instance_state = record { scans = scan_count instance_state; fault = scan_fault_number instance_state.fault }
+-- In what a fault is: 1 in the condition of a transition (2.6.3), 2 in the control block of an action (2.6.4.5), 3 in a statement of
+-- the body of a declared action (2.6.4.1); 0 where none stands.
+abbrev pub place_kind : Option FaultPlace → ℤ
+place_kind None = pos 0
+place_kind (Some (places.Transition tr)) = pos 1
+place_kind (Some (places.Action a)) = pos 2
+place_kind (Some (places.Statement id statement)) = pos 3
 
--- how many scans its life has had, and its fault
+-- the number of that transition, or of that action among all actions of the chart, as sfc_point has it; -1 where no fault stands
+abbrev pub place_number : Tabled → Option FaultPlace → ℤ
+place_number tables None = negsuc 0
+place_number tables (Some (places.Transition tr)) = pos tr.0
+place_number tables (Some (places.Action a)) = number_of_place (Some a.0)
+place_number tables (Some (places.Statement id statement)) = number_of_place (Some (number_of tables.actions (Declared id)).0)
+
+-- counted from 1; at most 2^31 - 1
+abbrev pub counted : ℕ → ℤ
+counted k = cond (nat_lt k 2147483647) (pos (k + 1)) (pos 2147483647)
+
+-- the statement of a body; 0 where the fault is in none
+abbrev pub place_statement : Option FaultPlace → ℤ
+place_statement None = pos 0
+place_statement (Some (places.Transition tr)) = pos 0
+place_statement (Some (places.Action a)) = pos 0
+place_statement (Some (places.Statement id statement)) = counted statement
+
+abbrev pub state_in : Tabled → InstanceState → ProgramState
+state_in tables instance_state = record {
+  scans = scan_count instance_state;
+  fault = scan_fault_number instance_state.fault;
+  place = place_kind instance_state.place;
+  number = place_number tables instance_state.place;
+  statement = place_statement instance_state.place;
+}
+
+-- how many scans its life has had, its fault, and where that is
 abbrev pub program_state : Steered → CommandHistory → ProgId → Option ProgramState
-program_state s h p =
-    cond (nat_lt p.0 (length s.plant.instances)) (Some (state_in (instance_state_of s.plant (events_of s h) p))) None
+program_state s h p = cond (nat_lt p.0 (length s.plant.instances))
+    (Some (state_in (tables_of (chart_of s.plant p)) (instance_state_of s.plant (events_of s h) p))) None
 
 -- ---- points
 

@@ -5,7 +5,8 @@
 //! - `scripting`: lines of scripts, and the image as text; `asked`: what a line asks; `obeying`: what is done for it; `same`: expressions
 //!   that are the same.
 //! - `finding`: numbers by names; `locating`: variables by locations; `naming`: counts and names; `kind`: what has a name.
-//! - `reading`: what is read without a command; `showing`: steps, transitions and actions; `image`: all variables; `tasks`: tasks.
+//! - `reading`: what is read without a command; `placed`: where a fault is; `showing`: steps, transitions and actions; `image`: all
+//!   variables; `tasks`: tasks.
 //! - `explaining`: what numbers mean.
 //! - `about`: what a variable is, and where it lies.
 //! - `next`: the scan that comes next; `advancing`: scans up to an instant, `advanced`: what is told of them; `scanning`: how they are made.
@@ -37,6 +38,7 @@ pub mod next;
 mod number;
 mod obeying;
 mod opening;
+mod placed;
 pub mod plc;
 mod point;
 pub mod reading;

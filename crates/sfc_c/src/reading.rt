@@ -1,6 +1,9 @@
 //! What is read without a command: nothing changes, and no instant is wanted.
 
-ghost use Rattle.std.specs.Prelude.{◌≡◌, None, pos};
+ghost use Rattle.std.specs.Prelude.{◌≡◌, List, None, pos};
+ghost use Rattle.sfc_replay.specs.sfc_image.Changes.{Change};
+ghost use Rattle.sfc_replay.specs.sfc_instance.Life.{InstanceState};
+ghost use Rattle.sfc_replay.specs.sfc_instance.Views.{Shows, tables_in};
 ghost use Rattle.sfc_replay.specs.sfc_debug.Agreement.{Agrees};
 ghost use Rattle.sfc_replay.specs.sfc_debug.Histories.{CommandHistory};
 ghost use Rattle.sfc_replay.specs.sfc_debug.Steered.{Steered, steered_by};
@@ -10,8 +13,10 @@ ghost use Rattle.sfc_c.specs.Readings as readings;
 
 use crate::handle::Handle;
 use crate::number::{flag, told};
+use crate::placed::{number_in, place_kind, statement_in};
 use crate::sfc_debug::debugger::Debugger;
 use crate::sfc_debug::mode::Mode;
+use crate::sfc_instance::program_view::ProgramView;
 use crate::sfc_instance::scan_fault::ScanFault;
 use crate::status::{CLOSED, UNKNOWN};
 use sfc_base::ids::{ProgId, VarId};
@@ -37,6 +42,13 @@ pub struct ProgramState {
     pub scans: u64,
     /// The fault that ended a scan since its latest reset: 1 to 5 in the order of docs/FORMATS.md; 0 for none.
     pub fault: i32,
+    /// In what that fault is: 1 in the condition of a transition, 2 in the control block of an action, 3 in a statement of the body of a
+    /// declared action; 0 for none.
+    pub place: i32,
+    /// The number of that transition or action; -3 for one above 65,535, and -1 for none.
+    pub number: i32,
+    /// The statement of the body, counted from 1, at most 2^31 - 1; else 0. What stands in an IF is part of it.
+    pub statement: i32,
 }
 
 // What the variable reads, if there is one with this number.
@@ -142,6 +154,21 @@ fn scan_fault_number(fault: Option<ScanFault>) -> i32
     }
 }
 
+// How a program instance stands, by its window.
+fn state_of(view: &ProgramView<'_>) -> ProgramState
+    ensures { (changes : List Change) (instance_state : InstanceState) → Shows view.now changes instance_state →
+        result ≡ readings.state_in (tables_in view.now) instance_state }
+{
+    let place = view.fault_place();
+    ProgramState {
+        scans: view.scans(),
+        fault: scan_fault_number(view.fault()),
+        place: place_kind(place),
+        number: number_in(view, place),
+        statement: statement_in(place),
+    }
+}
+
 // How a program instance stands, if there is one with this number.
 fn program_in(debugger: &Debugger, program: ProgId) -> Option<ProgramState>
     ensures { (h : CommandHistory) → Agrees debugger.now h → result ≡ readings.program_state (steered_by debugger.now) h program }
@@ -150,14 +177,10 @@ fn program_in(debugger: &Debugger, program: ProgId) -> Option<ProgramState>
     if (program.0 as usize) >= resource.plant().instances().len() {
         return None;
     }
-    let view = resource.program(program);
-    Some(ProgramState {
-        scans: view.scans(),
-        fault: scan_fault_number(view.fault()),
-    })
+    Some(state_of(&resource.program(program)))
 }
 
-/// How a program instance stands: how many scans its life has had, and its fault.
+/// How a program instance stands: how many scans its life has had, its fault, and where that is.
 #[unsafe(no_mangle)]
 pub extern "C" fn sfc_program_state(
     alloc: Global,

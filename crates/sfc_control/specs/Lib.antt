@@ -26,6 +26,8 @@ pub mod Lock
 pub mod Calls
 -- what contracts see of a seat
 pub mod Seats
+-- what is saved under the lock
+pub mod Saved
 -- until when a worker may wait
 pub mod Waiting
 -- what is found at the close

@@ -175,6 +175,18 @@ impl Book {
         self.debugger.resource()
     }
 
+    /// Puts into the opening what all entries leave for later answers, also those that were dropped; how many they are. It takes no memory.
+    pub fn save(&self, opening: &mut DebugOpening) -> u64
+        requires { IsOpeningFor (plant self.now) opening.old }
+        ensures count { result ≡ length (accepted self.now) }
+        ensures sizes { IsOpeningFor (plant self.now) opening.new }
+        ensures past { past_of (plant self.now) opening.new ≡
+            debug_past (plant self.now) (table self.now) (commands_of (accepted self.now)) }
+    {
+        self.debugger.save(opening);
+        self.debugger.accepted()
+    }
+
     // Why the command isn't looked at.
     fn bar(&self, command: Command) -> Option<Refusal>
         ensures { result ≡ bar (plant self.now) (table self.now) (limit self.now) (accepted self.now) command }

@@ -2,10 +2,12 @@
 
 ghost use Rattle.std.specs.Prelude.{◌≡◌, ◌<◌, ◌≤◌, [], List, length, IfOk};
 ghost use Rattle.sfc_debug.specs.Agreement.{Agrees, plant_of, table_of, mask_of};
+ghost use Rattle.sfc_debug.specs.Openings.{IsOpeningFor};
 ghost use Rattle.sfc_control.specs.declared.entry.Entry.{Entry};
 ghost use Rattle.sfc_control.specs.Books as books;
 ghost use Rattle.sfc_control.specs.Holding.{first_in, held_number};
 ghost use Rattle.sfc_control.specs.LegalHistory.{IsLegal};
+ghost use Rattle.sfc_control.specs.Saved.{IsSavedAfter};
 ghost use Rattle.sfc_control.specs.Seats.{AreFresh};
 ghost use Rattle.sfc_control.specs.Tails.{taken, capacity};
 
@@ -17,6 +19,7 @@ use crate::opened_with::OpenedWith;
 use crate::seat::Seat;
 use crate::tail::Tail;
 use sfc_debug::debugger::Debugger;
+use sfc_debug::opening::DebugOpening;
 use std::alloc::{AllocError, Global};
 use std::sync::ledger::{Blank, Ledger, Share};
 use std::sync::{Mutex, Wait, ledger};
@@ -112,5 +115,16 @@ impl<L: OpenedWith> Controller<L> {
     {
         let locked = self.locked.lock(rt);
         locked.book.entries().len()
+    }
+
+    /// Puts into the opening what all commands leave for later ones that were accepted so far; how many they are. It waits for the lock, and
+    /// takes no memory.
+    pub fn save<R: Wait>(&self, rt: &R, opening: &mut DebugOpening) -> u64
+        requires { IsOpeningFor L.plant opening.old }
+        ensures sizes { IsOpeningFor L.plant opening.new }
+        ensures saved { (es : List Entry) × IsSavedAfter L.plant L.table opening.new result es }
+    {
+        let locked = self.locked.lock(rt);
+        locked.book.save(opening)
     }
 }

@@ -8,7 +8,9 @@ use Rattle.sfc_expr.specs.declared.fault.Fault.{Fault}
 use Rattle.sfc_base.specs.declared.value.Value.{Value}
 use Rattle.sfc_base.specs.declared.references.Variable.{Variable}
 use Rattle.sfc_expr.specs.Environment.{Environment}
-use Rattle.sfc_expr.specs.Effect.{BodyEffect, effect}
+use Rattle.sfc_expr.specs.Effect.{effect}
+use Rattle.sfc_expr.specs.Trees.{Body}
+use Rattle.sfc_base.specs.declared.ids.ActionId.{ActionId}
 use Rattle.sfc_instances.specs.sfc_tables.Tables.{Tabled, tables_of}
 use Rattle.sfc_plant.specs.declared.association.Target.{Target}
 use Rattle.sfc_plant.specs.declared.association.Target.TheVariants.{Boolean, Declared}
@@ -20,13 +22,14 @@ use Rattle.sfc_plant.specs.Plants.{PlantData}
 use Rattle.sfc_instances.specs.sfc_image.Changes.{Change, Stored, Forced, Released, Reset}
 use Rattle.sfc_instances.specs.sfc_image.Values.{forced_value}
 use Rattle.sfc_instances.specs.sfc_image.Environments.{number_of}
+use Rattle.sfc_instances.specs.sfc_image.BodyFaults.{statements_done}
 use Rattle.sfc_instances.specs.sfc_image.Bodies.{stored_to, left_in, left_by, changes_in, assignment, variables_of}
 use Rattle.sfc_instances.proofs.of_sfc_image.Written.{forced_there, released_there}
 use Rattle.sfc_instances.specs.sfc_instance.declared.scan_fault.ScanFault.{ScanFault}
-use Rattle.sfc_instances.specs.sfc_instance.Life.{Life, Row, control_scans}
+use Rattle.sfc_instances.specs.sfc_instance.Life.{Life, Row, PlacedFault, InstanceState, control_scans}
 use Rattle.sfc_plant.specs.Finding.{chart_of}
-use Rattle.sfc_instances.specs.sfc_instance.ProgramScan.{and_then, body_in, after_body, acted, after_actions, condition_fault, environment}
-use Rattle.sfc_instances.specs.sfc_instance.ProgramScan.{unless, of_condition, of_control, of_body, with_row, next_row, attempt}
+use Rattle.sfc_instances.specs.sfc_instance.ProgramScan.{and_then, body_in, in_body, after_body, acted, after_actions, condition_fault, environment}
+use Rattle.sfc_instances.specs.sfc_instance.ProgramScan.{unless, of_condition, of_control, with_row, next_row, attempt}
 use Rattle.sfc_instances.specs.sfc_instance.ProgramScan.{after_attempt, unless_faulted}
 use Rattle.sfc_events.specs.declared.event.Event.{Event}
 use Rattle.sfc_events.specs.declared.event.Event.TheVariants as event
@@ -101,21 +104,23 @@ then_by : {F : Type 0} (old : List Change) (r : Result (List Change) F) (next : 
 then_by old (Ok mid) next f g = on_by old mid (next mid) f (g mid)
 then_by old (Err e) next f g = tt
 
-unless_by : (o : Option ScanFault) (old : List Change) (r : Result (List Change) ScanFault) → GrowsBy old r → GrowsBy old (unless o r)
+unless_by : (o : Option PlacedFault) (old : List Change) (r : Result (List Change) PlacedFault) → GrowsBy old r → GrowsBy old (unless o r)
 unless_by None old r f = f
 unless_by (Some e) old r f = tt
-
-body_by : (old : List Change) (r : Result (List Change) Fault) → GrowsBy old r → GrowsBy old (of_body r)
-body_by old (Ok new) f = f
-body_by old (Err e) f = tt
 
 -- ---- a scan of an instance
 
 module _ (plant : PlantData) (p : ProgId) where
-  body_grows : (old : List Change) (r : Result (Unit {0}) Fault) (env : Environment)
-      → GrowsBy old (and_then r (λ (u : Unit {0}). Ok (left_by plant p env ++ old)))
-  body_grows old (Ok u) env = record { recent = left_by plant p env; is = refl; stores = left_among plant p env (variables_of plant p) }
-  body_grows old (Err e) env = tt
+  body_grows : (old : List Change) (id : ActionId) (body : Body) (env : Environment) → GrowsBy old (after_body plant p old id body env)
+  body_grows old id body env = by (effect body env).result where
+    by : (r : Result (Unit {0}) Fault)
+        → GrowsBy old (and_then (in_body id (statements_done body env) r) (λ (u : Unit {0}). Ok (left_by plant p (effect body env).environment ++ old)))
+    by (Ok u) = record {
+      recent = left_by plant p (effect body env).environment;
+      is = refl;
+      stores = left_among plant p (effect body env).environment (variables_of plant p);
+    }
+    by (Err e) = tt
 
   acted_grows : (life : Life) (t : ℤ) (a : ℕ) (target : Target) (old : List Change) → GrowsBy old (acted plant p life t a target old)
   acted_grows life t a (Boolean v) old = record {
@@ -127,9 +132,8 @@ module _ (plant : PlantData) (p : ProgId) where
       let tables : Tabled = tables_of (chart_of plant p) in
       let scans = control_scans tables life in
       let body = body_in (slice_get (chart_of plant p).actions id.0) in
-      let body_effect : BodyEffect = effect body (environment plant p life old t (control.q tables a scans)) in
-      either_by (control.executed tables a scans) old (after_body plant p old body_effect) (Ok old)
-      (body_grows old body_effect.result body_effect.environment) (stays old)
+      let env = environment plant p life old t (control.q tables a scans) in
+      either_by (control.executed tables a scans) old (after_body plant p old id body env) (Ok old) (body_grows old id body env) (stays old)
 
   actions_grow : (life : Life) (t : ℤ) (a : ℕ) (targets : List Target) (old : List Change)
       → GrowsBy old (after_actions plant p life t a targets old)
@@ -143,19 +147,22 @@ module _ (plant : PlantData) (p : ProgId) where
       let tables : Tabled = tables_of (chart_of plant p) in
       let row : Row = next_row plant p life old t in
       let env = environment plant p life old t false in
-      let acts : Result (List Change) Fault = after_actions plant p (row ∷ life) t 0 tables.actions old in
       unless_by (of_condition (condition_fault tables (chart_of plant p) env life tables.ranked)) old (with_row plant p life old t row)
-      (unless_by (of_control (control.first_fault tables (control_scans tables (row ∷ life)))) old (of_body acts)
-      (body_by old acts (actions_grow (row ∷ life) t 0 tables.actions old)))
+      (unless_by (of_control (control.first_fault tables (control_scans tables (row ∷ life)))) old
+      (after_actions plant p (row ∷ life) t 0 tables.actions old)
+      (actions_grow (row ∷ life) t 0 tables.actions old))
 
-  after_grows : (life : Life) (old : List Change) (row : Row) (r : Result (List Change) ScanFault) → GrowsBy old r
+  after_grows : (life : Life) (old : List Change) (row : Row) (r : Result (List Change) PlacedFault) → GrowsBy old r
       → Grows old (after_attempt life old row r).changes
   after_grows life old row (Ok new) f = f
   after_grows life old row (Err e) f = stays old
 
-  scan_grows : (life : Life) (old : List Change) (t : ℤ) (o : Option ScanFault) → Grows old (unless_faulted plant p life old t o).changes
-  scan_grows life old t None = after_grows life old (next_row plant p life old t) (attempt plant p life old t) (attempt_grows life old t)
-  scan_grows life old t (Some f) = stays old
+  scan_grows : (instance_state : InstanceState) (old : List Change) (t : ℤ) (o : Option ScanFault)
+      → Grows old (unless_faulted plant p instance_state old t o).changes
+  scan_grows instance_state old t None =
+      let life = instance_state.life in
+      after_grows life old (next_row plant p life old t) (attempt plant p life old t) (attempt_grows life old t)
+  scan_grows instance_state old t (Some f) = stays old
 
 -- ---- a scan of a task
 
@@ -165,7 +172,7 @@ either_grows false old x y f g = g
 
 program_grows : (plant : PlantData) (t : ℤ) (k : ℕ) (state : PlantState) → Grows state.changes (program_scan plant t k state).changes
 unfolding program_scan
-program_grows plant t k state = scan_grows plant (record { 0 = k }) (state.instance_state k).life state.changes t (state.instance_state k).fault
+program_grows plant t k state = scan_grows plant (record { 0 = k }) (state.instance_state k) state.changes t (state.instance_state k).fault
 
 task_grows : (plant : PlantData) (task : TaskId) (t : ℤ) (k : ℕ) (instances : List Instance) (state : PlantState)
     → Grows state.changes (after_task plant task t k instances state).changes

@@ -25,6 +25,8 @@ pub mod Releasing
 pub mod Turns
 -- an instance with a fault
 pub mod Stays
+-- where the faults are that stand
+pub mod Placed
 -- what variables read after an event
 pub mod Shown
 -- what events do with the variables

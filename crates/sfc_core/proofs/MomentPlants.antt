@@ -30,6 +30,7 @@ use Rattle.sfc_plant.specs.declared.instance.Instance.{Instance}
 use Rattle.sfc_plant.specs.declared.task.Task.{Task}
 use Rattle.sfc_plant.specs.Plants.{PlantData}
 use Rattle.sfc_instances.specs.sfc_instance.declared.scan_fault.ScanFault.{ScanFault}
+use Rattle.sfc_instances.specs.sfc_instance.declared.fault_place.FaultPlace.{FaultPlace}
 use Rattle.sfc_plant.specs.Finding.{chart_of}
 use Rattle.sfc_instances.specs.sfc_instance.Answers.{is_step_active, step_elapsed, is_transition_cleared, action_q, is_action_executed}
 use Rattle.sfc_events.specs.declared.event.Event.TheVariants.{Scan, ForcedScan, Input, Force, Release, Reset}
@@ -243,6 +244,10 @@ life_in plant p h = length (instance_state_of plant h (record { 0 = p })).life
 
 abbrev pub fault_in : PlantData → ℕ → History → Option ScanFault
 fault_in plant p h = (instance_state_of plant h (record { 0 = p })).fault
+
+-- where it is
+abbrev pub place_in : PlantData → ℕ → History → Option FaultPlace
+place_in plant p h = (instance_state_of plant h (record { 0 = p })).place
 
 -- ---- the same where there is one
 

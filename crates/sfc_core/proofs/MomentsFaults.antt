@@ -16,6 +16,7 @@ use Rattle.sfc_instances.specs.sfc_tables.Ranks.{rank_order}
 use Rattle.sfc_instances.specs.sfc_action.declared.fault.ControlFault.TheVariants.{TwoTimed, SdWhileSl, SlWhileSd}
 use Rattle.sfc_plant.specs.Plants.{PlantData}
 use Rattle.sfc_instances.specs.sfc_instance.declared.scan_fault.ScanFault.TheVariants as fault
+use Rattle.sfc_instances.specs.sfc_instance.declared.fault_place.FaultPlace.TheVariants as place
 use Rattle.sfc_tasks.specs.Pick.{picked}
 use Rattle.sfc_instances.specs.PlantState.{program_scan}
 use Rattle.sfc_events.specs.declared.event.Outcome.TheVariants.{Scanned, Done}
@@ -28,7 +29,7 @@ use Rattle.sfc_core.specs.Verdict.{first_refusal, turn_refusal, scan_answer}
 use Rattle.sfc_core.proofs.MomentPlants.{ms, flag, int, dial, always, reads, number, the, sets, runs, for, initial_step}
 use Rattle.sfc_core.proofs.MomentPlants.{step, transition, goes, action, chart, program, instance, task, plant, small}
 use Rattle.sfc_core.proofs.MomentPlants.{scan, input, force, release, reset, scans, answer_to, active, executed, life_in}
-use Rattle.sfc_core.proofs.MomentPlants.{fault_in, read}
+use Rattle.sfc_core.proofs.MomentPlants.{fault_in, place_in, read}
 
 -- ---- a fault in a condition: 10 / k = 0, where k is at %IW0 and begins with 5; step 0 has the lamp
 
@@ -54,6 +55,11 @@ divided_by_zero = refl
 its_fault : fault_in dividing 0 faulted ≡ Some (fault.Expression DivZero)
 unfolding state_of program_scan rank_order
 its_fault = refl
+
+-- it is in the condition of the transition
+its_place : place_in dividing 0 faulted ≡ Some (place.Transition (record { 0 = 0 }))
+unfolding state_of program_scan rank_order
+its_place = refl
 
 -- it has no row: two scans without a fault there were, and step 0 is active
 no_row : life_in dividing 0 faulted ≡ 2
@@ -84,6 +90,11 @@ fault_stays : fault_in dividing 0 (scan 30 ∷ mended) ≡ Some (fault.Expressio
 unfolding state_of program_scan rank_order
 fault_stays = refl
 
+-- and so is where it is
+place_stays : place_in dividing 0 (scan 30 ∷ mended) ≡ Some (place.Transition (record { 0 = 0 }))
+unfolding state_of program_scan rank_order
+place_stays = refl
+
 -- the reset at 35 ms ends the fault, and begins a life
 abbrev begun_again : History
 begun_again = reset 0 35 ∷ scan 30 ∷ mended
@@ -97,6 +108,11 @@ reset_done = refl
 no_fault : fault_in dividing 0 begun_again ≡ None
 unfolding state_of program_scan rank_order
 no_fault = refl
+
+-- and so no place
+no_place : place_in dividing 0 begun_again ≡ None
+unfolding state_of program_scan rank_order
+no_place = refl
 
 -- the new life has had no scan
 new_life : life_in dividing 0 begun_again ≡ 0
@@ -150,6 +166,11 @@ out_of_range : fault_in overflowing 0 (scans 2) ≡ Some (fault.Expression Range
 unfolding state_of program_scan rank_order
 out_of_range = refl
 
+-- it is in the second statement of the body
+second_statement : place_in overflowing 0 (scans 2) ≡ Some (place.Statement (record { 0 = 0 }) 1)
+unfolding state_of program_scan rank_order
+second_statement = refl
+
 -- what the body assigned before the fault is gone, and so is the lamp, whose time was over
 body_undone : read overflowing 1 (scans 2) ≡ value.Int (pos 1)
 unfolding state_of program_scan rank_order
@@ -174,6 +195,11 @@ twice = controlled [] (sets (for Limited 1000) 0 ∷ sets (for StoredLimited 100
 two_timed : fault_in twice 0 (scans 2) ≡ Some (fault.Control TwoTimed)
 unfolding state_of program_scan rank_order
 two_timed = refl
+
+-- in the control block of V, which is action 0
+block_of_v : place_in twice 0 (scans 2) ≡ Some (place.Action (record { 0 = 0 }))
+unfolding state_of program_scan rank_order
+block_of_v = refl
 
 -- so step 1 was not entered
 two_timed_undone : active twice (scans 2) ≡ 0 ∷ []
@@ -208,6 +234,11 @@ first_action : fault_in two_actions 0 (scans 2) ≡ Some (fault.Control SlWhileS
 unfolding state_of program_scan rank_order
 first_action = refl
 
+-- and so is the place
+first_block : place_in two_actions 0 (scans 2) ≡ Some (place.Action (record { 0 = 0 }))
+unfolding state_of program_scan rank_order
+first_block = refl
+
 -- ---- which fault is the first
 
 -- one condition divides by z, which is 0; the other adds 1 to the greatest INT
@@ -226,6 +257,12 @@ by_rank : fault_in (with_conditions (goes 0 0 divides) (transition (Some 1) (0 �
     ≡ Some (fault.Expression Range)
 unfolding state_of program_scan rank_order
 by_rank = refl
+
+-- in the condition of the transition that comes second in the text
+place_by_rank : place_in (with_conditions (goes 0 0 divides) (transition (Some 1) (0 ∷ []) (0 ∷ []) overflows)) 0 (scans 2)
+    ≡ Some (place.Transition (record { 0 = 1 }))
+unfolding state_of program_scan rank_order
+place_by_rank = refl
 
 -- Step 1 has two timed qualifiers for V. The condition's fault comes before that, though its transition is not cleared.
 condition_first : fault_in (with_conditions (goes 0 1 always) (goes 0 0 divides)) 0 (scans 2) ≡ Some (fault.Expression DivZero)
@@ -254,6 +291,16 @@ first_at_fault = scan 0 ∷ force 1 (value.Int (pos 0)) 0 ∷ []
 one_faults : answer_to two_instances (force 1 (value.Int (pos 0)) 0 ∷ []) (scan 0) ≡ Ok (Scanned (set_of 2) (set_of 1) (set_of 0) 0)
 unfolding state_of program_scan rank_order singles_of calls_of picked first_refusal turn_refusal scan_answer
 one_faults = refl
+
+-- the first in its second statement
+second_of_first : place_in two_instances 0 first_at_fault ≡ Some (place.Statement (record { 0 = 0 }) 1)
+unfolding state_of program_scan rank_order
+second_of_first = refl
+
+-- and the second nowhere
+none_of_second : place_in two_instances 1 first_at_fault ≡ None
+unfolding state_of program_scan rank_order
+none_of_second = refl
 
 -- over the variables as the first found them
 other_runs : read two_instances 0 first_at_fault ≡ value.Int (pos 10)

@@ -16,6 +16,7 @@ use Rattle.sfc_plant.specs.Plants.{PlantData}
 use Rattle.sfc_instances.specs.sfc_image.Past.{VariablePast}
 use Rattle.sfc_tasks.specs.Past.{TaskPast}
 use Rattle.sfc_instances.specs.sfc_instance.declared.scan_fault.ScanFault.TheVariants as fault
+use Rattle.sfc_instances.specs.sfc_instance.declared.fault_place.FaultPlace.TheVariants as place
 use Rattle.sfc_instances.specs.sfc_instance.Past.{InstancePast}
 use Rattle.sfc_instances.specs.PlantState.{program_scan}
 use Rattle.sfc_events.specs.History.{History}
@@ -182,6 +183,7 @@ fault_stays : program_left dividing (scan 20 ∷ input 0 (value.Int (pos 0)) 15 
       scans = 2;
       at = ms 10;
       fault = Some (fault.Expression DivZero);
+      place = Some (place.Transition (record { 0 = 0 }));
     })
 unfolding state_of program_scan rank_order
 fault_stays = refl

@@ -20,7 +20,7 @@ module _ (plant : PlantData) (t : ℤ) (fault : ScanFault) where
       → (program_scan plant t k state).instance_state ≡ state.instance_state k
   unfolding program_scan
   scanned_over k state e =
-      let tells = end_tells plant (record { 0 = k }) (state.instance_state k).life state.changes t (state.instance_state k).fault in
+      let tells = end_tells plant (record { 0 = k }) (state.instance_state k) state.changes t (state.instance_state k).fault in
       tells.stands (tells.skips.1 (ap is_some e))
 
   -- a scan of one that is the task's own

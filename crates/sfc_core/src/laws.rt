@@ -1,7 +1,7 @@
 //! What the definitions mean: each law is a function with an empty body, whose contract is the law.
 
 ghost use Rattle.std.specs.Prelude.{◌≡◌, ◌≢◌, ◌↔◌, ◌⊎◌, Contains, ◌∷◌, [], ℤ, List, Ok, Err, Some, None, Option, slice_get, true, false, ◌++◌, All};
-ghost use Rattle.std.specs.Prelude.{◌<◌, ◌≤◌, ◌+◌, ◌<ℤ◌, length, count_by, AllPairs, IfSome};
+ghost use Rattle.std.specs.Prelude.{◌<◌, ◌≤◌, ◌+◌, ◌<ℤ◌, length, count_by, AllPairs, IfSome, is_some};
 ghost use Rattle.sfc_plant.specs.Sound.{IsPlant};
 ghost use Rattle.sfc_core.specs.declared.resource.Resource.{Resource};
 ghost use Rattle.sfc_core.specs.Agreement.{Agrees, plant_of};
@@ -181,6 +181,12 @@ pub fn faults()
     ensures { (plant : PlantData) (h : History) (event : Event) (t : ℤ) (p : ProgId) (fault : ScanFault) →
         (instance_state_of plant h p).fault ≡ Some fault → event ≢ Reset p →
         instance_state_of plant ((event, t) ∷ h) p ≡ instance_state_of plant h p }
+{}
+
+/// Of each instance it is known where its fault is exactly where a fault stands.
+pub fn places()
+    ensures { (plant : PlantData) (h : History) (p : ProgId) →
+        is_some (instance_state_of plant h p).place ≡ is_some (instance_state_of plant h p).fault }
 {}
 
 /// After a reset the instance has no scan and no fault, so that its next scan is a first scan; its locals have their initial

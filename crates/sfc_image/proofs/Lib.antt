@@ -1,4 +1,5 @@
 pub mod Agreed
+pub mod BodyFaults
 pub mod Built
 pub mod Apart
 pub mod Counting

@@ -10,6 +10,8 @@ pub mod StepTimes
 pub mod Environments
 -- what a body of a program leaves in the variables
 pub mod Bodies
+-- which statement of a body has the fault that ends it
+pub mod BodyFaults
 -- what its Boolean actions do with the variables
 pub mod Outputs
 -- values of the types of variables

@@ -6,6 +6,7 @@ ghost use Rattle.sfc_image.specs.Private.Keeping.{AreTracked, AreWithin};
 use crate::building::{build, build_memos};
 use crate::closing::{begin_all, close_all};
 use crate::copying::{copy_locals, copy_slots};
+use crate::finding::find_statement;
 use crate::giving::Outputs;
 use crate::image_error::ImageError;
 use crate::output_memo::{OutputMemo, begin_generation, begin_generation_if};
@@ -74,6 +75,7 @@ impl Image {
     ghost use Rattle.sfc_expr.specs.Nodes.{body_nodes};
     ghost use Rattle.sfc_image.specs.Environments.{moment_of, environment_of, number_of};
     ghost use Rattle.sfc_image.specs.Bodies.{left_by, with_changes};
+    ghost use Rattle.sfc_image.specs.BodyFaults.{faulty_statement};
     ghost use Rattle.sfc_image.specs.Outputs.{output, outputs};
     ghost use Rattle.sfc_flags.specs.Flags.{flag};
     ghost use Rattle.sfc_plant.specs.declared.association.Target.TheVariants.{Boolean};
@@ -220,6 +222,39 @@ impl Image {
             q,
         };
         exec(body, &mut store, ticks)
+    }
+
+    /// Executes the statements as `execute` does, and answers which of them has the fault that ends them, counted from 0, if one does.
+    #[cold]
+    #[inline(never)]
+    pub fn find_statement(
+        &mut self,
+        instance: ProgId,
+        body: &[Statement],
+        steps: StepReadings<'_>,
+        q: bool,
+        ticks: &mut Ticks,
+    ) -> Option<usize>
+        requires instance { instance.0 < instance_total self.old }
+        ensures large { IsAsLarge self.old self.new }
+        ensures open { is_open self.new ≡ is_open self.old }
+        ensures result { (plant : PlantData) (changes : Changes) → ImageAgrees plant self.old changes →
+            result ≡ faulty_statement (body_of body.now) (environment_of plant (all_of changes) instance (moment_of steps.entry q)) }
+        ensures agrees { (plant : PlantData) (changes : Changes) → ImageAgrees plant self.old changes →
+            ImageAgrees plant self.new (with_changes (left_by plant instance
+            (effect (body_of body.now) (environment_of plant (all_of changes) instance (moment_of steps.entry q))).environment) changes) }
+        ensures ticks { Within (body_nodes (body_of body.now)) ticks.old ticks.new }
+    {
+        let globals = self.locals[0].first;
+        let locals = self.locals[instance.0 as usize];
+        let mut store = ImageStore {
+            image: self,
+            globals,
+            locals,
+            steps,
+            q,
+        };
+        find_statement(body, &mut store, ticks)
     }
 
     // The number of a variable of the instance's program, if there is such a variable.

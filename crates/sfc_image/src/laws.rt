@@ -1,6 +1,6 @@
 //! What the definitions mean: each law is a function with an empty body, whose contract is the law.
 
-ghost use Rattle.std.specs.Prelude.{◌≡◌, ◌≢◌, ◌<◌, ◌↔◌, ◌++◌, ◌∷◌, ℕ, true, false, List, All, Some, IfSome};
+ghost use Rattle.std.specs.Prelude.{◌≡◌, ◌≢◌, ◌<◌, ◌↔◌, ◌++◌, ◌∷◌, ℕ, suc, true, false, List, All, Some, IfSome, is_some, is_ok, is_err};
 ghost use Rattle.sfc_image.specs.declared.image.Image.{Image};
 ghost use Rattle.sfc_image.specs.Agreement.{ImageAgrees};
 ghost use Rattle.sfc_image.specs.Changes.{settled};
@@ -22,6 +22,7 @@ ghost use Rattle.sfc_image.specs.Values.{stored_value, forced_value, value_of};
 ghost use Rattle.sfc_image.specs.Types.{BeginsTyped, GivesType, AreTimes, types_of};
 ghost use Rattle.sfc_image.specs.Environments.{number_of};
 ghost use Rattle.sfc_image.specs.Bodies.{left_by};
+ghost use Rattle.sfc_image.specs.BodyFaults.{faulty_statement, front};
 ghost use Rattle.sfc_expr.specs.Dependence.{is_assigned};
 ghost use Rattle.sfc_expr.specs.Effect.{effect};
 ghost use Rattle.sfc_expr.specs.Trees.{Body};
@@ -88,6 +89,16 @@ pub fn bodies()
         number_of plant p v ≡ Some i → is_assigned v body ≡ false →
         stored_value plant (left_by plant p (effect body (environment_of plant changes p moment)).environment ++ changes) i
         ≡ stored_value plant changes i }
+{}
+
+/// The statement that is told of a body has its fault: those before it end without one, and with it they end by that of the body
+/// (3.3.2). None is told exactly where the body ends without a fault.
+pub fn faulty_statements()
+    ensures before { (body : Body) (env : Environment) (k : ℕ) → faulty_statement body env ≡ Some k →
+        is_ok (effect (front k body) env).result ≡ true }
+    ensures there { (body : Body) (env : Environment) (k : ℕ) → faulty_statement body env ≡ Some k →
+        (effect (front (suc k) body) env).result ≡ (effect body env).result }
+    ensures exactly { (body : Body) (env : Environment) → is_some (faulty_statement body env) ≡ is_err (effect body env).result }
 {}
 
 /// Where each variable begins with a value of its type, and each store and each force gives one of its variable's type,

@@ -4,6 +4,7 @@
 //! - `building`: the slots of a plant's variables.
 //! - `closing`: what was tried is committed, or given up.
 //! - `copying`: what one image takes over from another.
+//! - `finding`: which statement of a body has a fault.
 //! - `giving`: what the outputs of an instance are given again.
 //! - `output_memo`: what an instance last gave the variables of its Boolean actions.
 //! - `image`: the variables of a plant.
@@ -19,6 +20,7 @@
 mod building;
 mod closing;
 mod copying;
+mod finding;
 mod giving;
 pub mod image;
 pub mod image_error;

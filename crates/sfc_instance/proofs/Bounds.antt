@@ -19,7 +19,7 @@ use Rattle.sfc_evolve.specs.Clearing.{preceding_of}
 use Rattle.sfc_evolve.specs.Work.{links}
 use Rattle.sfc_instance.specs.ProgramScan.{condition_in, body_in}
 use Rattle.sfc_instance.proofs.Outputs.{actions_long, boolean_work, declared}
-use Rattle.sfc_instance.specs.Work.{transition_work, condition_work, action_work, actions_work, scan_work, scan_limit}
+use Rattle.sfc_instance.specs.Work.{transition_work, condition_work, action_work, actions_work, good_work, good_limit, scan_work, scan_limit}
 
 -- a sum over what is numbered from a on is the sum over what has the numbers
 numbered : {X Y : Type 0} (h : Option X → ℕ) (g : Y → ℕ) (c : ℕ → Y) (a : ℕ) (all : List X)
@@ -100,6 +100,15 @@ acts chart =
     )
 
 -- ---- a scan
+
+pub good_within : (chart : Chart) (variables : ℕ) → good_work (tables_of chart) chart variables ≤ good_limit chart variables
+good_within chart variables = omega (
+  arith,
+  conditions chart,
+  acts chart,
+  actions_long chart,
+  length-map chart.transitions sides_of,
+)
 
 pub scan_within : (chart : Chart) (variables : ℕ) → scan_work (tables_of chart) chart variables ≤ scan_limit chart variables
 scan_within chart variables = omega (

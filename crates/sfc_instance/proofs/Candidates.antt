@@ -17,7 +17,7 @@ use Rattle.sfc_evolve.specs.Private.Proposing.{at_places}
 use Rattle.sfc_evolve.proofs.Flagged.{one_set}
 use Rattle.sfc_evolve.proofs.Looks.{bool_cases}
 use Rattle.sfc_instance.specs.Life.{Life}
-use Rattle.sfc_instance.specs.ProgramScan.{enabled, condition_result, condition_flag, condition_fault}
+use Rattle.sfc_instance.specs.ProgramScan.{enabled, condition_result, condition_flag, condition_fault, fault_with}
 use Rattle.sfc_instance.specs.Work.{condition_work, transition_work}
 use Rattle.sfc_instance.specs.Private.Evaluating.{evaluated, is_among, test_work}
 use Rattle.sfc_instance.proofs.Evaluated.{flag_of, no_fault, some_fault, among_range}
@@ -83,7 +83,7 @@ module _ (tables : Tabled) (chart : Chart) (env : Environment) (life : Life) whe
   fault_selected whole k [] (b ∷ candidates) s = absurd (let bad : length (b ∷ candidates) ≡ 0 = s.long in omega arith)
   fault_selected whole k (t ∷ ranked) [] s = absurd (let bad : 0 ≡ length (t ∷ ranked) = s.long in omega arith)
   fault_selected whole k (t ∷ ranked) (true ∷ candidates) s =
-      ap (λ o. or_else (cond (enabled tables life t.0) (result_err (condition_result chart env t.0)) None) o)
+      ap (λ o. or_else (fault_with t (cond (enabled tables life t.0) (result_err (condition_result chart env t.0)) None)) o)
       (fault_selected whole (suc k) ranked candidates (seen_next whole k t ranked true candidates s))
       ∙ ap (λ (x : TransitionId). condition_fault tables chart env life (x ∷ at_places whole (set_from (suc k) candidates)))
       (sym (seen_here whole k t ranked true candidates s))
@@ -93,7 +93,7 @@ module _ (tables : Tabled) (chart : Chart) (env : Environment) (life : Life) whe
         | inl on ↦ absurd (let bad : false ≡ true = s.proposed 0 (omega arith) on in cc)
         | inr off ↦ off
       ] in
-      ap (λ b. or_else (cond b (result_err (condition_result chart env t.0)) None) (condition_fault tables chart env life ranked)) idle
+      ap (λ b. or_else (fault_with t (cond b (result_err (condition_result chart env t.0)) None)) (condition_fault tables chart env life ranked)) idle
       ∙ fault_selected whole (suc k) ranked candidates (seen_next whole k t ranked false candidates s)
 
   module _ (sound : AreTables tables) (candidates : List Bool) (long : length candidates ≡ length tables.ranked)
@@ -170,12 +170,12 @@ module _ (tables : Tabled) (chart : Chart) (env : Environment) (life : Life) whe
 
   pub fault_next : (t : TransitionId) (rest : List TransitionId) (x : Bool) → Ok x ≡ evaluated tables chart env life t.0
       → condition_fault tables chart env life (t ∷ rest) ≡ condition_fault tables chart env life rest
-  fault_next t rest x e = ap (λ (o : Option Fault). or_else o (condition_fault tables chart env life rest))
+  fault_next t rest x e = ap (λ (o : Option Fault). or_else (fault_with t o) (condition_fault tables chart env life rest))
       (no_fault (enabled tables life t.0) (condition_result chart env t.0) x e)
 
   pub fault_here : (t : TransitionId) (rest : List TransitionId) (f : Fault) → Err f ≡ evaluated tables chart env life t.0
-      → condition_fault tables chart env life (t ∷ rest) ≡ Some f
-  fault_here t rest f e = ap (λ (o : Option Fault). or_else o (condition_fault tables chart env life rest))
+      → condition_fault tables chart env life (t ∷ rest) ≡ Some (record { transition = t; fault = f })
+  fault_here t rest f e = ap (λ (o : Option Fault). or_else (fault_with t o) (condition_fault tables chart env life rest))
       (some_fault (enabled tables life t.0) (condition_result chart env t.0) f e)
 
 module _ (tables : Tabled) (chart : Chart) where

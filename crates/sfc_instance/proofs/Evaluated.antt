@@ -17,11 +17,12 @@ use Rattle.sfc_tables.specs.Tables.{Tabled, AreTables}
 use Rattle.sfc_evolve.specs.Lookback.{or_else}
 use Rattle.sfc_evolve.proofs.Flagged.{one_set}
 use Rattle.sfc_evolve.proofs.Listed.{listed}
+use Rattle.sfc_instance.specs.declared.conditions.TransitionFault.{TransitionFault}
 use Rattle.sfc_instance.specs.Life.{Life}
-use Rattle.sfc_instance.specs.ProgramScan.{enabled, condition_result, condition_flag, condition_flags, condition_fault, is_true}
+use Rattle.sfc_instance.specs.ProgramScan.{enabled, condition_result, condition_flag, condition_flags, condition_fault, fault_with, is_true}
 use Rattle.sfc_instance.specs.Work.{condition_work, transition_work}
 use Rattle.sfc_expr.specs.Meaning.{truth_of}
-use Rattle.sfc_instance.specs.Private.Evaluating.{evaluated, is_among, AreEvaluated}
+use Rattle.sfc_instance.specs.Private.Evaluating.{at_transition, evaluated, is_among, AreEvaluated}
 
 -- the element of a list that is another list
 pub item_at : (xs ys : List TransitionId) (i : ℕ) (d : TransitionId) → xs ≡ ys → i < length xs → get_or xs i d ≡ get_or ys i (get_or xs i d)
@@ -44,6 +45,21 @@ some_fault true (Ok v) f e = absurd cc
 some_fault true (Err g) f e = cc
 some_fault false r f e = absurd cc
 
+-- what is told of one with its transition
+pub ok_inside : (tr : TransitionId) (r : Result Bool Fault) (x : Bool) → Ok x ≡ at_transition tr r → Ok x ≡ r
+ok_inside tr (Ok y) x e = cc
+ok_inside tr (Err f) x e = absurd cc
+
+same_error : (r : Result Bool TransitionFault) (x y : TransitionFault) → r ≡ Err x → r ≡ Err y → x ≡ y
+same_error r x y e g = cc
+
+pub err_inside : (tr : TransitionId) (r : Result Bool Fault) (f : TransitionFault) → Err f ≡ at_transition tr r
+    → (Err f.fault ≡ r) × (f ≡ record { transition = tr; fault = f.fault })
+err_inside tr (Ok y) f e = absurd cc
+err_inside tr (Err g) f e =
+    let same : f ≡ record { transition = tr; fault = g } = same_error (Err f) f (record { transition = tr; fault = g }) refl e in
+    (ap (λ (x : TransitionFault). Err x.fault) same, same ∙ (λ k. record { transition = tr; fault = (sym same k).fault }))
+
 module _ (ranked : List TransitionId) (i : ℕ) (tr : TransitionId) (lt : i < length ranked) (is : tr ≡ get_or ranked i tr) where
   split : drop i ranked ≡ tr ∷ drop (i + 1) ranked
   split = drop_more ranked i tr lt ∙ ap (λ (y : TransitionId). y ∷ drop (i + 1) ranked) (sym is)
@@ -53,14 +69,14 @@ module _ (ranked : List TransitionId) (i : ℕ) (tr : TransitionId) (lt : i < le
       → condition_fault tables chart env life (drop i ranked) ≡ condition_fault tables chart env life (drop (i + 1) ranked)
   fault_passed tables chart env life x e =
       ap (condition_fault tables chart env life) split
-      ∙ ap (λ (o : Option Fault). or_else o (condition_fault tables chart env life (drop (i + 1) ranked)))
+      ∙ ap (λ (o : Option Fault). or_else (fault_with tr o) (condition_fault tables chart env life (drop (i + 1) ranked)))
       (no_fault (enabled tables life tr.0) (condition_result chart env tr.0) x e)
 
   pub fault_found : (tables : Tabled) (chart : Chart) (env : Environment) (life : Life) (f : Fault)
-      → Err f ≡ evaluated tables chart env life tr.0 → condition_fault tables chart env life (drop i ranked) ≡ Some f
+      → Err f ≡ evaluated tables chart env life tr.0 → condition_fault tables chart env life (drop i ranked) ≡ Some (record { transition = tr; fault = f })
   fault_found tables chart env life f e =
       ap (condition_fault tables chart env life) split
-      ∙ ap (λ (o : Option Fault). or_else o (condition_fault tables chart env life (drop (i + 1) ranked)))
+      ∙ ap (λ (o : Option Fault). or_else (fault_with tr o) (condition_fault tables chart env life (drop (i + 1) ranked)))
       (some_fault (enabled tables life tr.0) (condition_result chart env tr.0) f e)
 
   pub work_split : (tables : Tabled) (chart : Chart)

@@ -29,6 +29,8 @@ pub mod StepTimes
 pub mod Typed
 -- what stays of a scan that faults
 pub mod Faults
+-- what is found at the place of a fault
+pub mod FoundAgain
 pub mod Held
 -- what a program shows of its tables
 pub mod Places

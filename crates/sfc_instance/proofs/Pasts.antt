@@ -8,7 +8,9 @@ use Rattle.std.specs.Result.{result_err}
 use Rattle.sfc_base.specs.declared.value.Value.TheVariants as value
 use Rattle.sfc_expr.specs.declared.fault.Fault.{Fault}
 use Rattle.sfc_expr.specs.Environment.{Environment}
-use Rattle.sfc_expr.specs.Effect.{BodyEffect, effect}
+use Rattle.sfc_expr.specs.Trees.{Body}
+use Rattle.sfc_expr.specs.Effect.{effect}
+use Rattle.sfc_base.specs.declared.ids.ActionId.{ActionId}
 use Rattle.sfc_plant.specs.declared.association.Target.{Target}
 use Rattle.sfc_plant.specs.declared.association.Target.TheVariants.{Boolean, Declared}
 use Rattle.sfc_plant.specs.declared.chart.Chart.{Chart}
@@ -23,7 +25,9 @@ use Rattle.sfc_evolve.proofs.Next.{all_same}
 use Rattle.sfc_evolve.proofs.Pasts as evolve
 use Rattle.sfc_evolve.proofs.TableFacts.{all_preceding_below}
 use Rattle.sfc_action.specs.ActionControl as control
-use Rattle.sfc_action.specs.declared.fault.ControlFault.{ControlFault}
+use Rattle.sfc_action.specs.declared.fault.ActionFault.{ActionFault}
+use Rattle.sfc_instance.specs.declared.conditions.TransitionFault.{TransitionFault}
+use Rattle.sfc_image.specs.BodyFaults.{statements_done}
 use Rattle.sfc_action.specs.Past.{controls_past}
 use Rattle.sfc_action.proofs.Pasts as action
 use Rattle.sfc_base.specs.declared.ids.ProgId.{ProgId}
@@ -37,14 +41,13 @@ use Rattle.sfc_image.specs.Bodies.{assignment, left_by}
 use Rattle.sfc_image.specs.Past.{image_past}
 use Rattle.sfc_image.proofs.Pasts as image
 use Rattle.sfc_instance.specs.declared.scan_fault.ScanFault.{ScanFault}
-use Rattle.sfc_instance.specs.declared.scan_fault.ScanFault.TheVariants as fault
 use Rattle.sfc_instance.specs.declared.program.Program.{Program}
-use Rattle.sfc_instance.specs.Life.{Row, Life, InstanceState, evolution_scan, evolution_scans, evolution_rows, control_scans}
-use Rattle.sfc_instance.specs.ProgramScan.{moment, environment, enabled, condition_result, is_true, condition_flags, condition_fault}
-use Rattle.sfc_instance.specs.ProgramScan.{association_times, row_of, body_in, and_then, after_body, acted, after_actions, unless}
-use Rattle.sfc_instance.specs.ProgramScan.{of_condition, of_control, of_body, with_row, next_row, attempt, After, after_attempt}
+use Rattle.sfc_instance.specs.Life.{Row, Life, PlacedFault, InstanceState, evolution_scan, evolution_scans, evolution_rows, control_scans}
+use Rattle.sfc_instance.specs.ProgramScan.{moment, environment, enabled, condition_result, is_true, condition_flags, condition_fault, fault_with}
+use Rattle.sfc_instance.specs.ProgramScan.{association_times, row_of, body_in, in_body, and_then, after_body, acted, after_actions, unless}
+use Rattle.sfc_instance.specs.ProgramScan.{of_condition, of_control, with_row, next_row, attempt, After, after_attempt}
 use Rattle.sfc_instance.specs.ProgramScan.{unless_faulted, after_scan}
-use Rattle.sfc_instance.specs.Agreement.{StateAgrees, ProgramAgrees}
+use Rattle.sfc_instance.specs.Agreement.{StateAgrees, ProgramAgrees, place_in}
 use Rattle.sfc_instance.specs.Past.{instance_past, past_in}
 
 -- the chart of each instance has tables
@@ -59,11 +62,11 @@ has_tables plant sound k lt =
 
 pub keeps_past : (tables : Tabled) (program : Program) (instance_state : InstanceState) → ProgramAgrees tables program instance_state
     → past_in tables program ≡ instance_past tables instance_state
-unfolding ProgramAgrees StateAgrees past_in
+unfolding ProgramAgrees StateAgrees past_in place_in
 keeps_past tables program instance_state k =
     let steps = evolve.keeps_past tables program.run.now.steps (evolution_scans instance_state.life) k.now.steps in
     let controls = action.keeps_past tables program.run.now.controls (control_scans tables instance_state.life) k.now.controls in
-    (λ i. record { steps = steps i; controls = controls i; scans = k.scans i; at = k.at i; fault = k.fault i })
+    (λ i. record { steps = steps i; controls = controls i; scans = k.scans i; at = k.at i; fault = k.fault i; place = k.place i })
 
 pub same_past : (tables : Tabled) (program : Program) (instance_state other : InstanceState) → ProgramAgrees tables program instance_state
     → instance_past tables instance_state ≡ instance_past tables other → ProgramAgrees tables program other
@@ -79,6 +82,7 @@ same_past tables program instance_state other k e = record {
   scans = k.scans ∙ ap (λ p. p.scans) e;
   at = k.at ∙ ap (λ p. p.at) e;
   fault = k.fault ∙ ap (λ p. p.fault) e;
+  place = k.place ∙ ap (λ p. p.place) e;
 }
 
 -- ---- results with the same pasts
@@ -96,26 +100,19 @@ then_same plant (Ok c) (Err y) f g same next = absurd same
 then_same plant (Err x) (Ok d) f g same next = absurd same
 then_same plant (Err x) (Err y) f g same next = same
 
-unless_same : (plant : PlantData) (o : Option ScanFault) (r s : Result (List Change) ScanFault) → SameDone plant r s
+unless_same : (plant : PlantData) (o : Option PlacedFault) (r s : Result (List Change) PlacedFault) → SameDone plant r s
     → SameDone plant (unless o r) (unless o s)
 unless_same plant None r s same = same
 unless_same plant (Some f) r s same = refl
 
-body_same : (plant : PlantData) (r s : Result (List Change) Fault) → SameDone plant r s
-    → SameDone plant (of_body r) (of_body s)
-body_same plant (Ok c) (Ok d) same = same
-body_same plant (Ok c) (Err y) same = absurd same
-body_same plant (Err x) (Ok d) same = absurd same
-body_same plant (Err x) (Err y) same = ap (λ f. fault.Expression f) same
-
 -- what a body leaves over changes
-body_done : (plant : PlantData) (p : ProgId) (c d : List Change) (body_effect : BodyEffect) → image_past plant c ≡ image_past plant d
-    → SameDone plant (after_body plant p c body_effect) (after_body plant p d body_effect)
-body_done plant p c d body_effect same = by body_effect.result where
+body_done : (plant : PlantData) (p : ProgId) (c d : List Change) (id : ActionId) (body : Body) (env : Environment)
+    → image_past plant c ≡ image_past plant d → SameDone plant (after_body plant p c id body env) (after_body plant p d id body env)
+body_done plant p c d id body env same = by (effect body env).result where
   by : (r : Result (Unit {0}) Fault)
-      → SameDone plant (and_then r (λ (u : Unit {0}). Ok (left_by plant p body_effect.environment ++ c)))
-      (and_then r (λ (u : Unit {0}). Ok (left_by plant p body_effect.environment ++ d)))
-  by (Ok u) = image.past_cut plant c d (left_by plant p body_effect.environment) same
+      → SameDone plant (and_then (in_body id (statements_done body env) r) (λ (u : Unit {0}). Ok (left_by plant p (effect body env).environment ++ c)))
+      (and_then (in_body id (statements_done body env) r) (λ (u : Unit {0}). Ok (left_by plant p (effect body env).environment ++ d)))
+  by (Ok u) = image.past_cut plant c d (left_by plant p (effect body env).environment) same
   by (Err f) = refl
 
 -- ---- lives with the same pasts
@@ -146,7 +143,7 @@ module _ (tables : Tabled) (sound : AreTables tables) (life other : Life) (same 
   faults_same chart env [] = refl
   faults_same chart env (tr ∷ ranked) =
       let rest = faults_same chart env ranked in
-      (λ i. or_else (cond (enabled_same tr.0 i) (result_err (condition_result chart env tr.0)) None) (rest i))
+      (λ i. or_else (fault_with tr (cond (enabled_same tr.0 i) (result_err (condition_result chart env tr.0)) None)) (rest i))
 
   -- the input of action control at the next scan
   active_same : (row : Row)
@@ -203,16 +200,15 @@ module _ (plant : PlantData) (p : ProgId) (sound : AreTables (tables_of (chart_o
       let env : environment plant p life c t (control.q tables a (control_scans tables life)) ≡ environment plant p other d t b =
       ap (λ x. environment plant p life c t x) q ∙ environment_same life other c d t b same e in
       run (control.executed tables a (control_scans tables life)) (control.executed tables a (control_scans tables other)) executed
-      (effect body (environment plant p life c t (control.q tables a (control_scans tables life))))
-      (effect body (environment plant p other d t b)) (ap (effect body) env)
+      body (environment plant p life c t (control.q tables a (control_scans tables life))) (environment plant p other d t b) env
     where
-      run : (x y : Bool) → x ≡ y → (o u : BodyEffect) → o ≡ u
-          → SameDone plant (cond x (after_body plant p c o) (Ok c)) (cond y (after_body plant p d u) (Ok d))
-      run true true same o u f = subst (λ (w : BodyEffect). SameDone plant (after_body plant p c o) (after_body plant p d w)) f
-          (body_done plant p c d o e)
-      run true false same o u f = absurd (cc)
-      run false true same o u f = absurd (cc)
-      run false false same o u f = e
+      run : (x y : Bool) → x ≡ y → (body : Body) (one two : Environment) → one ≡ two
+          → SameDone plant (cond x (after_body plant p c id body one) (Ok c)) (cond y (after_body plant p d id body two) (Ok d))
+      run true true same body one two f = subst (λ (w : Environment). SameDone plant (after_body plant p c id body one) (after_body plant p d id body w)) f
+          (body_done plant p c d id body one e)
+      run true false same body one two f = absurd (cc)
+      run false true same body one two f = absurd (cc)
+      run false false same body one two f = e
 
   actions_same : (life other : Life) (t : ℤ) → SameLives tables life other → (a : ℕ) (targets : List Target) (c d : List Change)
       → a + length targets ≡ length tables.actions → image_past plant c ≡ image_past plant d
@@ -230,13 +226,12 @@ module _ (plant : PlantData) (p : ProgId) (sound : AreTables (tables_of (chart_o
   with_row_same life other c d t row same e =
       let fault = control_fault_same tables sound life other same row in
       subst
-      (λ (o : Option ControlFault). SameDone plant (unless (of_control (control.first_fault tables (control_scans tables (row ∷ life))))
-      (of_body (after_actions plant p (row ∷ life) t 0 tables.actions c)))
-      (unless (of_control o) (of_body (after_actions plant p (row ∷ other) t 0 tables.actions d)))) fault
+      (λ (o : Option ActionFault). SameDone plant (unless (of_control (control.first_fault tables (control_scans tables (row ∷ life))))
+      (after_actions plant p (row ∷ life) t 0 tables.actions c))
+      (unless (of_control o) (after_actions plant p (row ∷ other) t 0 tables.actions d))) fault
       (unless_same plant (of_control (control.first_fault tables (control_scans tables (row ∷ life))))
-      (of_body (after_actions plant p (row ∷ life) t 0 tables.actions c)) (of_body (after_actions plant p (row ∷ other) t 0 tables.actions d))
-      (body_same plant (after_actions plant p (row ∷ life) t 0 tables.actions c) (after_actions plant p (row ∷ other) t 0 tables.actions d)
-      (actions_same (row ∷ life) (row ∷ other) t (lives_next tables sound life other same row) 0 tables.actions c d (omega arith) e)))
+      (after_actions plant p (row ∷ life) t 0 tables.actions c) (after_actions plant p (row ∷ other) t 0 tables.actions d)
+      (actions_same (row ∷ life) (row ∷ other) t (lives_next tables sound life other same row) 0 tables.actions c d (omega arith) e))
 
   row_same : (life other : Life) (c d : List Change) (t : ℤ) → SameLives tables life other → image_past plant c ≡ image_past plant d
       → next_row plant p life c t ≡ next_row plant p other d t
@@ -257,7 +252,7 @@ module _ (plant : PlantData) (p : ProgId) (sound : AreTables (tables_of (chart_o
       ∙ faults_same tables sound life other same (chart_of plant p) env' tables.ranked in
       let row = row_same life other c d t same e in
       subst
-      (λ (o : Option Fault). SameDone plant
+      (λ (o : Option TransitionFault). SameDone plant
       (unless (of_condition (condition_fault tables (chart_of plant p) (environment plant p life c t false) life tables.ranked))
       (with_row plant p life c t (next_row plant p life c t)))
       (unless (of_condition o) (with_row plant p other d t (next_row plant p other d t)))) fault
@@ -276,7 +271,7 @@ module _ (plant : PlantData) (p : ProgId) (sound : AreTables (tables_of (chart_o
       → min (suc (length life)) (2 ^ 64 - 1) ≡ min (suc (length other)) (2 ^ 64 - 1)
   counted life other e = omega arith
 
-  after_same : (instance_state other : InstanceState) (c d : List Change) (row row' : Row) (r s : Result (List Change) ScanFault)
+  after_same : (instance_state other : InstanceState) (c d : List Change) (row row' : Row) (r s : Result (List Change) PlacedFault)
       → instance_past tables instance_state ≡ instance_past tables other → image_past plant c ≡ image_past plant d → row ≡ row'
       → SameDone plant r s → SameAfter (after_attempt instance_state.life c row r) (after_attempt other.life d row' s)
   after_same instance_state other c d row row' (Ok x) (Ok y) same e er done =
@@ -291,7 +286,8 @@ module _ (plant : PlantData) (p : ProgId) (sound : AreTables (tables_of (chart_o
           scans = scans i;
           at = row.at;
           fault = None;
-        }) ∙ (λ i. instance_past tables (record { life = er i ∷ other.life; fault = None }));
+          place = None;
+        }) ∙ (λ i. instance_past tables (record { life = er i ∷ other.life; fault = None; place = None }));
         changes = done;
         scan_end = refl;
       }
@@ -303,7 +299,8 @@ module _ (plant : PlantData) (p : ProgId) (sound : AreTables (tables_of (chart_o
       controls = (same i).controls;
       scans = (same i).scans;
       at = (same i).at;
-      fault = Some (done i);
+      fault = Some (done i).fault;
+      place = Some (done i).place;
     });
     changes = e;
     scan_end = refl;
@@ -311,7 +308,7 @@ module _ (plant : PlantData) (p : ProgId) (sound : AreTables (tables_of (chart_o
 
   faulted_same : (instance_state other : InstanceState) (c d : List Change) (t : ℤ) (o u : Option ScanFault)
       → instance_past tables instance_state ≡ instance_past tables other → image_past plant c ≡ image_past plant d → o ≡ u
-      → SameAfter (unless_faulted plant p instance_state.life c t o) (unless_faulted plant p other.life d t u)
+      → SameAfter (unless_faulted plant p instance_state c t o) (unless_faulted plant p other d t u)
   faulted_same instance_state other c d t None None same e eo =
       let lives : SameLives tables instance_state.life other.life =
       record { steps = ap (λ p. p.steps) same; controls = ap (λ p. p.controls) same } in
@@ -319,13 +316,7 @@ module _ (plant : PlantData) (p : ProgId) (sound : AreTables (tables_of (chart_o
       (attempt plant p instance_state.life c t) (attempt plant p other.life d t) same e
       (row_same instance_state.life other.life c d t lives e) (attempt_same instance_state.life other.life c d t lives e)
   faulted_same instance_state other c d t (Some f) (Some g) same e eo = record {
-    instance_state = (λ i. record {
-      steps = (same i).steps;
-      controls = (same i).controls;
-      scans = (same i).scans;
-      at = (same i).at;
-      fault = eo i;
-    });
+    instance_state = same;
     changes = e;
     scan_end = refl;
   }

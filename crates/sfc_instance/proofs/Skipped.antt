@@ -2,7 +2,6 @@
 use Rattle.std.proofs.Common.{◌≡◌, ℕ, zero, suc, ◌+◌, ◌*◌, ◌<◌, ◌≤◌, arith, Bool, false, cond, List, ◌∷◌, length, drop, ℤ, Some, Ok, ap, ◌∙◌}
 use Rattle.std.specs.Prelude.{slice_get}
 use Rattle.std.proofs.lemmas.List.{drop_all}
-use Rattle.sfc_expr.specs.Effect.{effect}
 use Rattle.sfc_base.specs.declared.ids.ActionId.{ActionId}
 use Rattle.sfc_base.specs.declared.ids.ProgId.{ProgId}
 use Rattle.sfc_action.specs.ActionControl as control
@@ -36,7 +35,7 @@ module _ (plant : PlantData) (p : ProgId) (life : Life) (t : ℤ) (targets : Lis
       let scans = control_scans (tables_of (chart_of plant p)) life in
       let q = control.q (tables_of (chart_of plant p)) a scans in
       let body = body_in (slice_get (chart_of plant p).actions id.0) in
-      ap (λ (b : Bool). and_then (cond b (after_body plant p changes (effect body (environment plant p life changes t q))) (Ok changes))
+      ap (λ (b : Bool). and_then (cond b (after_body plant p changes id body (environment plant p life changes t q)) (Ok changes))
       (λ after. after_actions plant p life t (suc a) rest after)) off
 
   -- m of them, of which none is executed

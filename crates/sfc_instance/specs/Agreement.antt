@@ -1,5 +1,5 @@
 -- What a `Program` agrees with.
-use Rattle.std.specs.Prelude.{ℕ, ℤ, ◌≡◌, [], length}
+use Rattle.std.specs.Prelude.{ℕ, ℤ, ◌≡◌, [], length, Option, Some, None}
 use Rattle.sfc_tables.specs.Tables.{Tabled}
 use Rattle.sfc_evolve.specs.Agreement as evolve
 use Rattle.sfc_action.specs.Agreement as action
@@ -9,6 +9,8 @@ use Rattle.sfc_instance.specs.declared.state.State.{State}
 use Rattle.sfc_instance.specs.declared.scan_buffers.ScanBuffers.{ScanBuffers}
 use Rattle.sfc_instance.specs.declared.scan_run.ScanRun.{ScanRun}
 use Rattle.sfc_instance.specs.declared.program.Program.{Program}
+use Rattle.sfc_instance.specs.declared.fault_place.FaultPlace.{FaultPlace}
+use Rattle.sfc_instance.specs.declared.scan_fault.ScanFault.{ScanFault}
 use Rattle.sfc_instance.specs.Life.{Life, InstanceState, evolution_scans, control_scans, latest_instant}
 use Rattle.sfc_instance.specs.Answers.{scan_count}
 use Rattle.sfc_instance.specs.Private.Holding.{AreHeld}
@@ -77,6 +79,14 @@ pub record HasBuffers (tables : Tabled) (program : Program) : Type 0 where
 unfoldable pub IsFor : Tabled → Program → Type 0
 IsFor tables program = HasBuffers tables program
 
+-- where the fault is that stands, if one does
+abbrev pub place_after : Option ScanFault → Option FaultPlace → Option FaultPlace
+place_after None place = None
+place_after (Some f) place = place
+
+unfoldable pub place_in : Program → Option FaultPlace
+place_in program = place_after program.fault program.run.place
+
 -- what it keeps is how the instance stands
 pub record Keeps (tables : Tabled) (program : Program) (instance_state : InstanceState) : Type 0 where
   pub now : StateAgrees tables program.run.now instance_state.life
@@ -84,6 +94,7 @@ pub record Keeps (tables : Tabled) (program : Program) (instance_state : Instanc
   pub scans : program.scans ≡ scan_count instance_state
   pub at : program.at ≡ latest_instant instance_state.life
   pub fault : program.fault ≡ instance_state.fault
+  pub place : place_after program.fault program.run.place ≡ instance_state.place
 
 -- all answers are those of an instance that stands so
 unfoldable pub ProgramAgrees : Tabled → Program → InstanceState → Type 0

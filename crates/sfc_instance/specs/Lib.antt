@@ -6,6 +6,8 @@ pub mod Life
 pub mod Contexts
 -- one scan of a program
 pub mod ProgramScan
+-- what is found at the place of a fault
+pub mod FaultPlaces
 -- what gives variables values of their types
 pub mod Types
 -- how much a scan handles

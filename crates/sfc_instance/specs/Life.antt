@@ -4,6 +4,7 @@ use Rattle.sfc_tables.specs.Tables.{Tabled}
 use Rattle.sfc_evolve.specs.Evolution as evolution
 use Rattle.sfc_action.specs.ActionControl as control
 use Rattle.sfc_action.specs.Agreement.{scan_input}
+use Rattle.sfc_instance.specs.declared.fault_place.FaultPlace.{FaultPlace}
 use Rattle.sfc_instance.specs.declared.scan_fault.ScanFault.{ScanFault}
 
 -- One scan: what the condition of each transition gave, in text order, and FALSE where the transition wasn't enabled; the
@@ -39,12 +40,18 @@ abbrev pub latest_instant : Life → ℤ
 latest_instant [] = pos 0
 latest_instant (row ∷ life) = row.at
 
--- The state of a program instance: its life, and the fault that ended its latest scan, if one did. After a fault it is
--- not scanned until its reset (our choice).
+-- a fault of a scan, and where it is
+pub record PlacedFault : Type 0 where
+  pub fault : ScanFault
+  pub place : FaultPlace
+
+-- The state of a program instance: its life, the fault that ended its latest scan, if one did, and where that fault is. After a
+-- fault it is not scanned until its reset (our choice).
 pub record InstanceState : Type 0 where
   pub life : Life
   pub fault : Option ScanFault
+  pub place : Option FaultPlace
 
 -- at the opening, and after a reset
 abbrev pub fresh : InstanceState
-fresh = record { life = []; fault = None }
+fresh = record { life = []; fault = None; place = None }

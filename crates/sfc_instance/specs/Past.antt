@@ -5,19 +5,22 @@ use Rattle.sfc_evolve.specs.Past as evolve
 use Rattle.sfc_evolve.specs.Past.{StepsPast, steps_past}
 use Rattle.sfc_action.specs.Past as action
 use Rattle.sfc_action.specs.Past.{ActionPast, controls_past}
+use Rattle.sfc_instance.specs.declared.fault_place.FaultPlace.{FaultPlace}
 use Rattle.sfc_instance.specs.declared.scan_fault.ScanFault.{ScanFault}
 use Rattle.sfc_instance.specs.declared.program.Program.{Program}
 use Rattle.sfc_instance.specs.Life.{InstanceState, evolution_scans, control_scans, latest_instant}
 use Rattle.sfc_instance.specs.Answers.{scan_count}
+use Rattle.sfc_instance.specs.Agreement.{place_in}
 
 -- the pasts of its steps and of its action control; how many scans its life has had, and the instant of the latest; the fault
--- that ended a scan, if one did
+-- that ended a scan, if one did, and where it is
 pub record InstancePast : Type 0 where
   pub steps : StepsPast
   pub controls : List ActionPast
   pub scans : ℕ
   pub at : ℤ
   pub fault : Option ScanFault
+  pub place : Option FaultPlace
 
 abbrev pub instance_past : Tabled → InstanceState → InstancePast
 instance_past tables instance_state = record {
@@ -26,6 +29,7 @@ instance_past tables instance_state = record {
   scans = scan_count instance_state;
   at = latest_instant instance_state.life;
   fault = instance_state.fault;
+  place = instance_state.place;
 }
 
 -- the past that it keeps
@@ -36,4 +40,5 @@ past_in tables program = record {
   scans = program.scans;
   at = program.at;
   fault = program.fault;
+  place = place_in program;
 }

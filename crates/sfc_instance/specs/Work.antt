@@ -35,29 +35,43 @@ action_work chart (Declared id) = 2 + body_nodes (body_in (slice_get chart.actio
 abbrev pub actions_work : Chart → List Target → ℕ
 actions_work chart targets = sum_by (action_work chart) targets
 
--- A scan of a program instance among so many variables: the conditions, the times of the associations, steps and action
--- control on a copy, the actions, and the variables that are then kept or given up.
-abbrev pub scan_work : Tabled → Chart → ℕ → ℕ
-scan_work tables chart variables =
+-- what the actions handle among so many variables: themselves, and the variables that are then kept or given up
+abbrev pub acting_work : Tabled → Chart → ℕ → ℕ
+acting_work tables chart variables = actions_work chart tables.actions + variables
+
+-- A scan of a program instance among so many variables that no fault of a body ends: the conditions, the times of the associations,
+-- steps and action control on a copy, and the actions.
+abbrev pub good_work : Tabled → Chart → ℕ → ℕ
+good_work tables chart variables =
     condition_work tables chart tables.ranked
     + length tables.associations
     + copy_work tables
     + advance_work tables
     + control_work tables
-    + actions_work chart tables.actions
-    + variables
+    + acting_work tables chart variables
+
+-- Each scan: after the fault of a body the actions are gone through once more for the statement that has it.
+abbrev pub scan_work : Tabled → Chart → ℕ → ℕ
+scan_work tables chart variables = good_work tables chart variables + acting_work tables chart variables
 
 -- ---- how much that is at most, of a chart among so many variables
 
--- the nodes of its conditions, and the statements of its bodies with the nodes of their expressions
+-- the statements of its bodies with the nodes of their expressions
+abbrev pub nodes_of_bodies : Chart → ℕ
+nodes_of_bodies chart = sum_by (λ (a : Action). body_nodes a.body) chart.actions
+
+-- those, and the nodes of its conditions
 abbrev pub nodes_in : Chart → ℕ
-nodes_in chart =
-    sum_by (λ (t : Transition). nodes t.condition) chart.transitions + sum_by (λ (a : Action). body_nodes a.body) chart.actions
+nodes_in chart = sum_by (λ (t : Transition). nodes t.condition) chart.transitions + nodes_of_bodies chart
 
 -- eight times its steps, transitions, links, associations and actions, twice the variables, and each node once
-abbrev pub scan_limit : Chart → ℕ → ℕ
-scan_limit chart variables =
+abbrev pub good_limit : Chart → ℕ → ℕ
+good_limit chart variables =
     let tables = tables_of chart in
     8 * (length tables.initial + length tables.sides + links tables + length tables.associations + length tables.actions)
     + 2 * variables
     + nodes_in chart
+
+-- with a fault of a body twice the actions and the nodes of the bodies more
+abbrev pub scan_limit : Chart → ℕ → ℕ
+scan_limit chart variables = good_limit chart variables + 2 * length (tables_of chart).actions + nodes_of_bodies chart

@@ -17,7 +17,7 @@ ghost use Rattle.sfc_instance.specs.Contexts.{IsContextOf};
 ghost use Rattle.sfc_instance.specs.ProgramScan.{acted, after_actions, body_in};
 ghost use Rattle.sfc_instance.specs.Agreement.{IsStateFor, StateAgrees};
 ghost use Rattle.sfc_instance.specs.Work.{actions_work};
-ghost use Rattle.sfc_instance.specs.Private.Acting.{IsAfter, Acts, HasActed};
+ghost use Rattle.sfc_instance.specs.Private.Acting.{IsAfter, Acts, HasActed, kind_in};
 
 use crate::program_context::ProgramContext;
 use crate::state::State;
@@ -38,8 +38,8 @@ pub struct Acting<'a> {
     pub steps: StepReadings<'a>,
 }
 
-// The statements of a declared action.
-fn body_of(chart: &Chart, id: ActionId) -> &[Statement]
+/// The statements of a declared action.
+pub fn body_of(chart: &Chart, id: ActionId) -> &[Statement]
     ensures { statements_body result.now ≡ body_in (slice_get chart.now.actions id.0) }
 {
     match chart.actions.as_slice().get(id.0) {
@@ -62,7 +62,7 @@ fn act_one(
     ensures large { IsAsLarge image.old image.new }
     ensures open { is_open image.new ≡ is_open image.old }
     ensures agrees { (plant : PlantData) (life : Life) (t : ℤ) (committed tried : List Change) →
-        IsAfter plant acting.entry life t → ImageAgrees plant image.old (trying committed tried) → Acts plant committed image.new result
+        IsAfter plant acting.entry life t → ImageAgrees plant image.old (trying committed tried) → Acts plant committed image.new (kind_in result)
         (acted plant acting.entry.context.instance life t action.0 (Declared id) (tried ++ committed)) }
     ensures ticks { Within (1 + body_nodes (body_in (slice_get acting.entry.context.chart.now.actions id.0)))
         ticks.old ticks.new }
@@ -106,7 +106,7 @@ fn act(acting: Acting<'_>, image: &mut Image, from: usize, ticks: &mut Ticks) ->
     ensures large { IsAsLarge image.old image.new }
     ensures open { is_open image.new ≡ is_open image.old }
     ensures agrees { (plant : PlantData) (life : Life) (t : ℤ) (committed tried : List Change) → IsAfter plant acting.entry life t →
-        ImageAgrees plant image.old (trying committed tried) → Acts plant committed image.new result
+        ImageAgrees plant image.old (trying committed tried) → Acts plant committed image.new (kind_in result)
         (after_actions plant acting.entry.context.instance life t from (drop from acting.entry.context.tables.now.actions) (tried ++ committed)) }
     ensures ticks { Within (actions_work acting.entry.context.chart.now (drop from acting.entry.context.tables.now.actions)
         - (length acting.entry.context.tables.now.actions - from)) ticks.old ticks.new }

@@ -9,7 +9,7 @@ ghost use Rattle.sfc_tables.specs.Tables.{tables_of};
 ghost use Rattle.sfc_evolve.specs.Agreement.{IsFor, StepsAgree, Enables};
 ghost use Rattle.sfc_instance.specs.Life.{Life, evolution_scans};
 ghost use Rattle.sfc_instance.specs.ProgramScan.{condition_fault, condition_flags, condition_in, condition_result};
-ghost use Rattle.sfc_instance.specs.Private.Evaluating.{evaluated, test_work};
+ghost use Rattle.sfc_instance.specs.Private.Evaluating.{at_transition, evaluated, test_work};
 ghost use Rattle.sfc_instance.specs.Private.Holding.{AreHeld, IsReady};
 ghost use Rattle.sfc_instance.specs.Work.{condition_work};
 
@@ -21,6 +21,13 @@ use sfc_evolve::steps::Steps;
 use sfc_expr::eval::holds;
 use sfc_expr::fault::Fault;
 use sfc_expr::view::View;
+
+/// The fault of a condition, and the transition whose condition it is.
+#[derive(Clone, Copy)]
+pub struct TransitionFault {
+    pub transition: TransitionId,
+    pub fault: Fault,
+}
 
 // Whether the condition of the transition is TRUE. One that asks for a least time of a step alone is not evaluated.
 #[tactic(auto, using(crate::proofs::Asked::reached, crate::proofs::Asked::some_nodes))]
@@ -50,19 +57,22 @@ fn evaluate<V: View>(
     view: &V,
     transition: TransitionId,
     ticks: &mut Ticks,
-) -> Result<bool, Fault>
+) -> Result<bool, TransitionFault>
     requires tables { context.tables.now ≡ tables_of context.chart.now }
     requires sizes { IsFor context.tables.now steps.now }
     requires transition { transition.0 < length context.tables.now.sides }
     ensures value { (life : Life) → StepsAgree context.entry.tables.now steps.now (evolution_scans life) →
-        result ≡ evaluated context.entry.tables.now context.entry.chart.now (V.environment view.now) life transition.0 }
+        result ≡ at_transition transition (evaluated context.entry.tables.now context.entry.chart.now (V.environment view.now) life transition.0) }
     ensures enables { IfOk result (λ holds. holds ≡ true → Enables context.entry.tables.now steps.now transition.0) }
     ensures ticks { Within (test_work context.entry.tables.now context.entry.chart.now transition) ticks.old ticks.new }
 {
     if !steps.enabled(context.tables, transition, ticks) {
         return Ok(false);
     }
-    condition_holds(context, view, transition, ticks)
+    match condition_holds(context, view, transition, ticks) {
+        Ok(holds) => Ok(holds),
+        Err(fault) => Err(TransitionFault { transition, fault }),
+    }
 }
 
 /// No condition is TRUE, where those were that are told.
@@ -77,15 +87,15 @@ pub fn blank(conditions: &mut [bool], holding: Holding)
     }
 }
 
-/// The conditions of all enabled transitions, by number, and FALSE for the others, as all are before; or the first fault in rank order.
-/// Answers which of them are TRUE.
+/// The conditions of all enabled transitions, by number, and FALSE for the others, as all are before; or the first fault in rank order,
+/// and its transition. Answers which of them are TRUE.
 pub fn evaluate_all<V: View>(
     context: ProgramContext<'_>,
     steps: &Steps,
     view: &V,
     conditions: &mut [bool],
     ticks: &mut Ticks,
-) -> Result<Holding, Fault>
+) -> Result<Holding, TransitionFault>
     requires tables { context.tables.now ≡ tables_of context.chart.now }
     requires sizes { IsFor context.tables.now steps.now }
     requires len { length conditions.old ≡ length context.tables.now.sides }

@@ -1,6 +1,6 @@
 //! What the definitions mean: each law is a function with an empty body, whose contract is the law.
 
-ghost use Rattle.std.specs.Prelude.{◌≡◌, ◌<◌, ◌≤◌, ℕ, ℤ, false, List, All, length, None, Some};
+ghost use Rattle.std.specs.Prelude.{◌≡◌, ◌<◌, ◌≤◌, ℕ, ℤ, false, List, All, length, is_some, None, Some};
 ghost use Rattle.sfc_base.specs.declared.ids.ProgId.{ProgId};
 ghost use Rattle.sfc_plant.specs.declared.chart.Chart.{Chart};
 ghost use Rattle.sfc_tables.specs.Tables.{Tabled, tables_of};
@@ -19,11 +19,13 @@ ghost use Rattle.sfc_instance.specs.Past.{instance_past, past_in};
 ghost use Rattle.sfc_plant.specs.Plants.{PlantData};
 ghost use Rattle.sfc_image.specs.Changes.{Change};
 ghost use Rattle.sfc_instance.specs.declared.scan_fault.ScanFault.{ScanFault};
-ghost use Rattle.sfc_instance.specs.Life.{InstanceState, latest_instant};
+ghost use Rattle.sfc_instance.specs.declared.fault_place.FaultPlace.{FaultPlace};
+ghost use Rattle.sfc_instance.specs.FaultPlaces.{IsFoundAt};
+ghost use Rattle.sfc_instance.specs.Life.{InstanceState, fresh, latest_instant};
 ghost use Rattle.sfc_image.specs.Types.{BeginsTyped, GivesType};
 ghost use Rattle.sfc_instance.specs.ProgramScan.{after_scan, environment};
 ghost use Rattle.sfc_instance.specs.Types.{IsTypedInstance, IsInstant, AreInstants};
-ghost use Rattle.sfc_instance.specs.Work.{scan_work, scan_limit};
+ghost use Rattle.sfc_instance.specs.Work.{good_work, good_limit, scan_work, scan_limit};
 
 /// A scan that a fault ends, and one that is passed over because of an earlier fault, leave the life of the instance and
 /// the variables as they were (our choice).
@@ -34,6 +36,24 @@ pub fn nothing_stays_of_a_fault()
     ensures variables { (plant : PlantData) (p : ProgId) (instance_state : InstanceState) (changes : List Change) (t : ℤ) (f : ScanFault) →
         (after_scan plant p instance_state changes t).instance_state.fault ≡ Some f →
         (after_scan plant p instance_state changes t).changes ≡ changes }
+{}
+
+/// A place stands exactly where a fault does: at the opening and after a reset, and after a scan where it did before it.
+pub fn placed()
+    ensures fresh { is_some fresh.place ≡ is_some fresh.fault }
+    ensures scan { (plant : PlantData) (p : ProgId) (instance_state : InstanceState) (changes : List Change) (t : ℤ) →
+        is_some instance_state.place ≡ is_some instance_state.fault →
+        is_some (after_scan plant p instance_state changes t).instance_state.place
+        ≡ is_some (after_scan plant p instance_state changes t).instance_state.fault }
+{}
+
+/// At the place of a scan's fault that fault is found again: in the condition of an enabled transition, in the control block of an
+/// action, or in a statement of a body that is executed over what the actions before it left (2.6.3, 2.6.4.1, 2.6.4.5).
+pub fn found_again()
+    ensures { (plant : PlantData) (p : ProgId) (instance_state : InstanceState) (changes : List Change) (t : ℤ) (f : ScanFault) →
+        instance_state.fault ≡ None → (after_scan plant p instance_state changes t).instance_state.fault ≡ Some f →
+        (there : FaultPlace) × ((after_scan plant p instance_state changes t).instance_state.place ≡ Some there)
+        × IsFoundAt plant p instance_state.life changes t there f }
 {}
 
 /// A scan gives each variable that it writes a value of its type, where all that was given before was so, the actions
@@ -53,10 +73,12 @@ pub fn faulted_instance_stays()
         instance_state.fault ≡ Some f → (after_scan plant p instance_state changes t).instance_state ≡ instance_state }
 {}
 
-/// A scan handles at most eight times the steps, transitions, links, associations and actions of the chart, twice the
-/// variables of the plant, and each node of its conditions and bodies once, whatever came before it.
+/// A scan handles at most eight times the steps, transitions, links, associations and actions of the chart, twice the variables of the
+/// plant, and each node of its conditions and bodies once, whatever came before it; one that the fault of a body ends handles at most
+/// each action twice and each node of a body once more.
 pub fn bounded_scan()
-    ensures { (chart : Chart) (variables : ℕ) → scan_work (tables_of chart) chart variables ≤ scan_limit chart variables }
+    ensures good { (chart : Chart) (variables : ℕ) → good_work (tables_of chart) chart variables ≤ good_limit chart variables }
+    ensures all { (chart : Chart) (variables : ℕ) → scan_work (tables_of chart) chart variables ≤ scan_limit chart variables }
 {}
 
 /// What a condition reads over a window is what it reads before a scan at the instant of the latest one (2.6.2, 3.3.1).
@@ -129,4 +151,6 @@ pub fn past_answers()
         instance_past tables instance_state ≡ instance_past tables other → scan_count instance_state ≡ scan_count other }
     ensures fault { (tables : Tabled) (instance_state other : InstanceState) →
         instance_past tables instance_state ≡ instance_past tables other → instance_state.fault ≡ other.fault }
+    ensures place { (tables : Tabled) (instance_state other : InstanceState) →
+        instance_past tables instance_state ≡ instance_past tables other → instance_state.place ≡ other.place }
 {}

@@ -3,6 +3,7 @@
 //!
 //! - `acting`: what the actions of a scan do with the variables.
 //! - `conditions`: the conditions of transitions.
+//! - `fault_place`: where the fault of a scan is; `placing`: where that of a body is.
 //! - `scan_end`: how a scan ended.
 //! - `laws`: what the definitions mean.
 //! - `moved`: what a scan may have changed.
@@ -18,9 +19,11 @@
 
 mod acting;
 mod conditions;
+pub mod fault_place;
 mod holding;
 pub mod laws;
 pub mod moved;
+mod placing;
 pub mod program;
 pub mod program_context;
 pub mod program_moment;

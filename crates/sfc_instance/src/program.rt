@@ -2,6 +2,7 @@
 
 ghost use Rattle.std.specs.Prelude.{◌≤ℤ◌, ◌^◌, pos};
 
+use crate::fault_place::FaultPlace;
 use crate::moved::Moved;
 use crate::program_context::ProgramContext;
 use crate::scan_end::ScanEnd;
@@ -46,7 +47,7 @@ impl Drop for Program {
 
 #[tactic(auto, unfolding(crate::specs::Agreement::IsFor, crate::specs::Agreement::ProgramAgrees, crate::specs::Agreement::StateAgrees))]
 impl Program {
-    ghost use Rattle.std.specs.Prelude.{◌≡◌, ◌<◌, ◌≤ℤ◌, ◌^◌, ℕ, pos, true, false, List, length, IfOk};
+    ghost use Rattle.std.specs.Prelude.{◌≡◌, ◌≢◌, ◌<◌, ◌≤ℤ◌, ◌^◌, ℕ, pos, true, false, List, length, IfOk};
     ghost use Rattle.sfc_base.specs.Ticks.{Within};
     ghost use Rattle.sfc_flags.specs.Flags.{flag};
     ghost use Rattle.sfc_tables.specs.Tables.{Tabled, tables_of};
@@ -58,7 +59,8 @@ impl Program {
     ghost use Rattle.sfc_instance.specs.Life.{Life, InstanceState, evolution_rows, latest_instant, fresh};
     ghost use Rattle.sfc_instance.specs.Contexts.{IsContextOf};
     ghost use Rattle.sfc_instance.specs.ProgramScan.{after_scan, step_times};
-    ghost use Rattle.sfc_instance.specs.Work.{scan_work, copy_work};
+    ghost use Rattle.sfc_instance.specs.declared.scan_end.ScanEnd.TheVariants.{Faulted};
+    ghost use Rattle.sfc_instance.specs.Work.{copy_work, good_work, scan_work};
     ghost use Rattle.sfc_instance.specs.Answers as answers;
     ghost use Rattle.sfc_instance.specs.Agreement.{IsFor, ProgramAgrees, step_total, transition_total, action_total, shown_elapsed, elapsed_at};
 
@@ -106,6 +108,8 @@ impl Program {
             ProgramAgrees context.entry.tables.now self.old instance_state → ImageAgrees plant image.old (settled changes) →
             ImageAgrees plant image.new (settled (after_scan plant context.entry.instance instance_state changes t).changes) }
         ensures ticks { Within (scan_work context.entry.tables.now context.entry.chart.now (variable_total image.old)) ticks.old ticks.new }
+        ensures good { result ≢ Faulted →
+            Within (good_work context.entry.tables.now context.entry.chart.now (variable_total image.old)) ticks.old ticks.new }
     {
         if self.fault.is_some() {
             return ScanEnd::Skipped;
@@ -150,6 +154,7 @@ impl Program {
         let mut ticks = Ticks::new();
         self.run.now.copy_from(tables, &other.run.now, &mut ticks);
         self.run.moved = Moved::All;
+        self.run.place = other.run.place;
         self.fresh.copy_from(tables, &other.fresh, &mut ticks);
         self.scans = other.scans;
         self.at = other.at;
@@ -206,6 +211,16 @@ impl Program {
         ensures { (tables : Tabled) (instance_state : InstanceState) → ProgramAgrees tables self.now instance_state → result ≡ instance_state.fault }
     {
         self.fault
+    }
+
+    /// Where the fault is that ended a scan since its latest reset, if one did.
+    pub(crate) fn fault_place(&self) -> Option<FaultPlace>
+        ensures { (tables : Tabled) (instance_state : InstanceState) → ProgramAgrees tables self.now instance_state → result ≡ instance_state.place }
+    {
+        match self.fault {
+            Some(_) => self.run.place,
+            None => None,
+        }
     }
 
     /// Whether the step is active (2.6.2).

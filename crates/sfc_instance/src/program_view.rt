@@ -5,6 +5,7 @@ ghost use Rattle.sfc_plant.specs.Finding.{chart_of};
 ghost use Rattle.sfc_tables.specs.Tables.{tables_of};
 ghost use Rattle.sfc_instance.specs.Agreement.{step_total, transition_total, action_total};
 
+use crate::fault_place::FaultPlace;
 use crate::program::Program;
 use crate::scan_fault::ScanFault;
 use sfc_base::ids::{ActionNumber, ProgId, TransitionId};
@@ -172,6 +173,15 @@ impl<'a> ProgramView<'a> {
             result ≡ instance_state.fault }
     {
         self.program.fault()
+    }
+
+    /// Where the fault is that ended a scan since its latest reset, if one did: in the condition of a transition, in the control block of
+    /// an action, or in a statement of a body.
+    pub fn fault_place(&self) -> Option<FaultPlace>
+        ensures { (changes : List Change) (instance_state : InstanceState) → Shows self.now changes instance_state →
+            result ≡ instance_state.place }
+    {
+        self.program.fault_place()
     }
 
     /// Whether the step is active (2.6.2). The step is one of its chart's.

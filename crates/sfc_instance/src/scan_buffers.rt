@@ -25,14 +25,13 @@ ghost use Rattle.sfc_instance.specs.Private.Holding.{IsReady};
 ghost use Rattle.sfc_instance.specs.Work.{condition_work};
 ghost use Rattle.sfc_instance.specs.Agreement.{IsStateFor, AreBuffersFor, StateAgrees};
 
-use crate::conditions::{blank, evaluate_all};
+use crate::conditions::{TransitionFault, blank, evaluate_all};
 use crate::holding::Holding;
 use crate::program_context::ProgramContext;
 use crate::reading::{list_varied, read_association_times};
 use crate::state::State;
 use sfc_action::step_inputs::StepInputs;
 use sfc_base::ticks::Ticks;
-use sfc_expr::fault::Fault;
 use sfc_image::image::Image;
 use sfc_tables::tables::Tables;
 use std::alloc::{AllocError, Global};
@@ -54,7 +53,7 @@ impl ScanBuffers {
     }
 
     /// The conditions of the next scan, at t, and the times of associations, both from what is read before it; or the
-    /// first fault of a condition.
+    /// first fault of a condition, and its transition.
     pub fn read(
         &mut self,
         context: ProgramContext<'_>,
@@ -62,7 +61,7 @@ impl ScanBuffers {
         image: &Image,
         t: i64,
         ticks: &mut Ticks,
-    ) -> Result<(), Fault>
+    ) -> Result<(), TransitionFault>
         requires tables { context.tables.now ≡ tables_of context.chart.now }
         requires sizes { AreBuffersFor context.tables.now self.old }
         requires state { IsStateFor context.tables.now state.now }

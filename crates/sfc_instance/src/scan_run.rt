@@ -1,17 +1,20 @@
 //! A scan of a program instance: what it works on.
 
 use crate::acting::act_or_undo;
+use crate::fault_place::FaultPlace;
 use crate::moved::Moved;
+use crate::placing::find_place;
 use crate::scan_buffers::ScanBuffers;
 use crate::state::State;
 
-/// The steps and the action control after the latest scan, and what they were before it, which a fault brings back; and what that scan
-/// may have changed.
+/// The steps and the action control after the latest scan, and what they were before it, which a fault brings back; what that scan may
+/// have changed; and where the latest fault is, of no use where none stands.
 pub struct ScanRun {
     pub now: State,
     pub spare: State,
     pub buffers: ScanBuffers,
     pub moved: Moved,
+    pub place: Option<FaultPlace>,
 }
 
 // By hand, so that a caller that drops one proves one call.
@@ -22,11 +25,12 @@ impl Drop for ScanRun {
             spare: _,
             buffers: _,
             moved: _,
+            place: _,
         } = self;
     }
 }
 
-ghost use Rattle.std.specs.Prelude.{◌≡◌, ◌<◌, ◌+◌, ◌≤ℤ◌, ◌^◌, [], List, false, pos, length, IfOk};
+ghost use Rattle.std.specs.Prelude.{◌≡◌, ◌<◌, ◌+◌, ◌≤ℤ◌, ◌^◌, [], List, false, pos, length, IfOk, OnOk, ◌*◌};
 ghost use Rattle.sfc_base.specs.Ticks.{Within};
 ghost use Rattle.sfc_tables.specs.Tables.{tables_of};
 ghost use Rattle.sfc_plant.specs.Plants.{PlantData};
@@ -35,9 +39,9 @@ ghost use Rattle.sfc_image.specs.Agreement.{ImageAgrees, IsAsLarge, instance_tot
 ghost use Rattle.sfc_instance.specs.Life.{Life};
 ghost use Rattle.sfc_instance.specs.Contexts.{IsContextOf};
 ghost use Rattle.sfc_instance.specs.ProgramScan.{after_actions, attempt, next_row, with_row};
-ghost use Rattle.sfc_instance.specs.Work.{actions_work, scan_work};
+ghost use Rattle.sfc_instance.specs.Work.{acting_work, good_work, scan_work};
 ghost use Rattle.sfc_instance.specs.Agreement.{IsScanRunFor, StateAgrees};
-ghost use Rattle.sfc_instance.specs.Private.Acting.{HasActed};
+ghost use Rattle.sfc_instance.specs.Private.Acting.{HasActedSo};
 ghost use Rattle.sfc_instance.specs.Private.Holding.{IsReady};
 ghost use Rattle.sfc_instance.specs.Private.Scanning.{HasScanned, Moves, go_work, row_in};
 
@@ -60,11 +64,12 @@ impl ScanRun {
             spare: State::new(alloc, tables)?,
             buffers: ScanBuffers::new(alloc, tables)?,
             moved: Moved::All,
+            place: None,
         })
     }
 
-    // What the actions do after the scan of the steps and action control, or the fault of a body; then these are again what the spare
-    // ones are.
+    // What the actions do after the scan of the steps and action control, or the fault of a body; then its place is kept, and these are
+    // again what the spare ones are.
     fn finish(
         &mut self,
         context: ProgramContext<'_>,
@@ -85,13 +90,15 @@ impl ScanRun {
             Moves context.entry.tables.now life result self.old.spare self.new.now }
         ensures agrees { (plant : PlantData) (life : Life) (changes : List Change) → IsContextOf plant context.entry →
             StateAgrees context.entry.tables.now self.old.now life → ImageAgrees plant image.old (settled changes) →
-            HasActed plant changes image.new result
+            HasActedSo plant changes image.new result self.new.place
             (after_actions plant context.entry.instance life t 0 context.entry.tables.now.actions changes) }
-        ensures ticks { Within (actions_work context.entry.chart.now context.entry.tables.now.actions
-            + variable_total image.old) ticks.old ticks.new }
+        ensures ticks { Within (2 * acting_work context.entry.tables.now context.entry.chart.now (variable_total image.old)) ticks.old ticks.new }
+        ensures good { OnOk result
+            (Within (acting_work context.entry.tables.now context.entry.chart.now (variable_total image.old)) ticks.old ticks.new) }
     {
         let answer = act_or_undo(context, &self.now, image, t, ticks);
         if answer.is_err() {
+            self.place = find_place(context, &self.now, image, t, ticks);
             std::mem::swap(&mut self.now, &mut self.spare);
             self.moved = Moved::All;
         }
@@ -118,9 +125,13 @@ impl ScanRun {
         ensures closed { is_open image.new ≡ false }
         ensures agrees { (plant : PlantData) (life : Life) (changes : List Change) → IsContextOf plant context.entry →
             StateAgrees context.entry.tables.now self.old.now life → ImageAgrees plant image.old (settled changes) →
-            HasScanned plant context.entry.tables.now life changes (row_in self.old.buffers t) self.new.now image.new result
+            HasScanned plant context.entry.tables.now life changes (row_in self.old.buffers t) self.new.now image.new
+            result self.new.place
             (with_row plant context.entry.instance life changes t (row_in self.old.buffers t)) }
-        ensures ticks { Within (go_work context.entry.tables.now context.entry.chart.now (variable_total image.old)) ticks.old ticks.new }
+        ensures ticks { Within (go_work context.entry.tables.now context.entry.chart.now (variable_total image.old)
+            + acting_work context.entry.tables.now context.entry.chart.now (variable_total image.old)) ticks.old ticks.new }
+        ensures good { OnOk result
+            (Within (go_work context.entry.tables.now context.entry.chart.now (variable_total image.old)) ticks.old ticks.new) }
     {
         self.spare
             .follow(self.moved, context.tables, &self.now, ticks);
@@ -128,7 +139,8 @@ impl ScanRun {
             Err(fault) => {
                 std::mem::swap(&mut self.now, &mut self.spare);
                 self.moved = Moved::All;
-                Err(ScanFault::Control(fault))
+                self.place = Some(FaultPlace::Action(fault.action));
+                Err(ScanFault::Control(fault.fault))
             }
             Ok(moved) => {
                 self.moved = moved;
@@ -160,11 +172,16 @@ impl ScanRun {
         ensures agrees { (plant : PlantData) (life : Life) (changes : List Change) → IsContextOf plant context.entry →
             StateAgrees context.entry.tables.now self.old.now life → ImageAgrees plant image.old (settled changes) →
             HasScanned plant context.entry.tables.now life changes (next_row plant context.entry.instance life changes t)
-            self.new.now image.new result (attempt plant context.entry.instance life changes t) }
+            self.new.now image.new result self.new.place (attempt plant context.entry.instance life changes t) }
         ensures ticks { Within (scan_work context.entry.tables.now context.entry.chart.now (variable_total image.old)) ticks.old ticks.new }
+        ensures good { OnOk result
+            (Within (good_work context.entry.tables.now context.entry.chart.now (variable_total image.old)) ticks.old ticks.new) }
     {
         match self.buffers.read(context, &self.now, image, t, ticks) {
-            Err(fault) => Err(ScanFault::Expression(fault)),
+            Err(fault) => {
+                self.place = Some(FaultPlace::Transition(fault.transition));
+                Err(ScanFault::Expression(fault.fault))
+            }
             Ok(()) => self.go_on(context, image, t, ticks),
         }
     }

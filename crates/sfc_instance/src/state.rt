@@ -49,7 +49,7 @@ use crate::holding::Holding;
 use crate::moved::Moved;
 use crate::scan_buffers::ScanBuffers;
 use sfc_action::associations::Associations;
-use sfc_action::fault::ControlFault;
+use sfc_action::fault::ActionFault;
 use sfc_base::ticks::Ticks;
 use sfc_image::step_readings::StepReadings;
 use sfc_tables::tables::Tables;
@@ -235,14 +235,14 @@ impl State {
 
     /// One scan at t, in microseconds from 0 to 2^62, with the condition of each transition and the time of each
     /// association in microseconds, which the buffers have (2.6.5). It takes no memory. Answers
-    /// what may have changed. The error is the fault of action control; then the steps have gone on and the control has not.
+    /// what may have changed. The error is the fault of action control, with its action; then the steps have gone on and the control has not.
     pub fn advance(
         &mut self,
         tables: &Tables,
         buffers: &ScanBuffers,
         t: i64,
         ticks: &mut Ticks,
-    ) -> Result<Moved, ControlFault>
+    ) -> Result<Moved, ActionFault>
         requires sizes { IsStateFor tables.now self.old }
         requires buffers { AreBuffersFor tables.now buffers.now }
         requires ready { IsReady tables.now self.old.steps buffers.now.holding }

@@ -4,6 +4,8 @@ pub mod ScanEnd
 pub mod EndBits
 pub mod OfOnePlant
 pub mod Pasts
+-- where the faults are that stand
+pub mod Placed
 pub mod Scanned
 pub mod InstanceState
 pub mod TaskScans

@@ -2,6 +2,8 @@
 
 -- how the variables and the program instances stand, and what scans and resets make of that
 pub mod PlantState
+-- where the faults are that stand
+pub mod Places
 -- what gives variables values of their types
 pub mod Types
 -- how the scans of a task's instances end

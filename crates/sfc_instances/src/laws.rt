@@ -22,6 +22,7 @@ ghost use Rattle.sfc_instance.specs.Types.{IsInstant};
 ghost use Rattle.sfc_instances.specs.PlantState.{PlantState, opened, after_program, after_reset, after_task};
 ghost use Rattle.sfc_instances.specs.PlantState.{program_scan};
 ghost use Rattle.sfc_instances.specs.Types.{IsTypedPlant, IsTypedState};
+ghost use Rattle.sfc_instances.specs.Places.{ArePlaced};
 
 /// A scan of one instance leaves how each other stands (2.6.2).
 pub fn programs()
@@ -36,7 +37,7 @@ pub fn tasks()
         (after_task plant task t 0 plant.instances state).instance_state k ≡ state.instance_state k }
 {}
 
-/// A scan that a fault ends changes nothing but its instance's fault: the variables and the life of the instance stay
+/// A scan that a fault ends changes nothing but its instance's fault, and where it is: the variables and the life of the instance stay
 /// (our choice).
 pub fn faults()
     ensures changes { (plant : PlantData) (t : ℤ) (k : ℕ) (state : PlantState) → (program_scan plant t k state).scan_end ≡ Faulted →
@@ -45,6 +46,8 @@ pub fn faults()
         (program_scan plant t k state).instance_state.life ≡ (state.instance_state k).life }
     ensures fault { (plant : PlantData) (t : ℤ) (k : ℕ) (state : PlantState) → (program_scan plant t k state).scan_end ≡ Faulted →
         is_some (program_scan plant t k state).instance_state.fault ≡ true }
+    ensures place { (plant : PlantData) (t : ℤ) (k : ℕ) (state : PlantState) → (program_scan plant t k state).scan_end ≡ Faulted →
+        is_some (program_scan plant t k state).instance_state.place ≡ true }
 {}
 
 /// An instance is passed over exactly where a fault stands, and then nothing changes (our choice).
@@ -86,6 +89,15 @@ pub fn types()
         IsTypedState plant state → IsTypedState plant (with_change change state) }
     ensures reset { (plant : PlantData) (p : ProgId) (state : PlantState) → IsTypedState plant state →
         IsTypedState plant (after_reset p state) }
+{}
+
+/// Of each instance a place stands exactly where a fault does: at the opening, and after scans of a task, changes and resets.
+pub fn places()
+    ensures opened { ArePlaced opened }
+    ensures task { (plant : PlantData) (task : TaskId) (t : ℤ) (state : PlantState) → ArePlaced state →
+        ArePlaced (after_task plant task t 0 plant.instances state) }
+    ensures change { (change : Change) (state : PlantState) → ArePlaced state → ArePlaced (with_change change state) }
+    ensures reset { (p : ProgId) (state : PlantState) → ArePlaced state → ArePlaced (after_reset p state) }
 {}
 
 /// What is kept is the past of the state: all that later answers need, and for all states of this past the same.

@@ -4,6 +4,8 @@ pub mod Texts
 pub mod Kept
 -- the end of the line of a program instance
 pub mod Done
+-- the line of a program instance that a fault has ended
+pub mod FaultLines
 -- the head of that line, with another number of scans
 pub mod Heads
 -- lines of numbered places, one after the other

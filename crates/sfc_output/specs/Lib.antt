@@ -4,6 +4,8 @@
 pub mod Lists
 -- the line of a program after a scan
 pub mod Programs
+-- where a fault is, in words
+pub mod FaultPlaces
 -- the lines of commands and of their answers
 pub mod Commands
 -- what is written of a session, and the text of a debugger

@@ -5,6 +5,7 @@
 //! - `breakpoint`: where breakpoints stand, and their conditions.
 //! - `command`: the lines of commands and of their answers; of rows of the trace.
 //! - `effects`: what a scan did, and how that is written.
+//! - `fault_place`: where the fault of a program instance is, in words.
 //! - `image_line`: the lines of the image.
 //! - `kept_head`: the head of the lines of a program instance, put again and again.
 //! - `kept_text`: short texts that are put again and again.
@@ -19,6 +20,7 @@ pub mod answer;
 mod breakpoint;
 pub mod command;
 mod effects;
+pub mod fault_place;
 pub mod image_line;
 mod kept_head;
 pub mod kept_lines;

@@ -13,10 +13,12 @@ use Rattle.std.proofs.Crossing.{crosses}
 use Rattle.rtrb.proofs.consumer.Consumer.TheSendSync as consumer
 use Rattle.sfc_events.proofs.command.TraceRow.TheSendSync as row
 use Rattle.sfc_control.proofs.of_sfc_debug.Crosses.{debugger_send}
+use Rattle.sfc_control.proofs.of_sfc_debug.opening.DebugOpening.TheSendSync as opening
 use Rattle.sfc_control.specs.contracts.tail.Tail as Tail
 use Rattle.sfc_run.specs.contracts.alarms.Alarms as Alarms
 use Rattle.sfc_run.specs.contracts.follower.Follower as Follower
 use Rattle.sfc_run.specs.contracts.points.Points as Points
+use Rattle.sfc_run.specs.contracts.resumption.Resumption as Resumption
 use Rattle.sfc_run.specs.contracts.screen.Screen as Screen
 use Rattle.sfc_run.specs.contracts.timing.Timing as Timing
 use Rattle.sfc_run.specs.contracts.watch.Watch as Watch
@@ -25,7 +27,7 @@ tail_send : IsSend (Tail.the_field).row
 tail_send = search (sendable, crosses, consumer.the_field_send, row.the_send) depth 20
 
 follower_send : IsSend (Follower.the_field).row
-follower_send = search (sendable, debugger_send)
+follower_send = search (sendable, crosses, debugger_send) depth 20
 
 screen_send : IsSend (Screen.the_field).row
 screen_send = search (sendable, crosses, debugger_send) depth 20
@@ -39,8 +41,11 @@ timing_send = search (sendable, crosses) depth 20
 alarms_send : IsSend (Alarms.the_field).row
 alarms_send = search (sendable, crosses, follower_send, screen_send, points_send, timing_send) depth 20
 
+resumption_send : IsSend (Resumption.the_field).row
+resumption_send = search (sendable, crosses, opening.the_field_send) depth 20
+
 pub watch_send : IsSend (Watch.the_field).row
-watch_send = search (sendable, crosses, alarms_send, tail_send) depth 20
+watch_send = search (sendable, crosses, alarms_send, tail_send, resumption_send) depth 20
 
 -- A job that captures values of these types. Written out, since the prover's own search goes through all that a debugger is made of.
 pub job_send : (ν : Sym) (δ : Ty) (Ts : List RattleType) → AllSend (rows (parts Ts)) → IsSend (param 1 (arg δ no (TupleAt ν Ts)))

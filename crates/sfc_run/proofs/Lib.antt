@@ -8,6 +8,8 @@ pub mod RowLines
 pub mod Records
 -- what is shown of a row
 pub mod Showing
+-- where a follower goes on from what the run saved
+pub mod Resuming
 -- one post more
 pub mod Posting
 -- lines that were obeyed one after the other

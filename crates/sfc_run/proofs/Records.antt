@@ -1,5 +1,5 @@
 -- What was recorded of rows, and what a replay of it writes.
-use Rattle.std.proofs.Common.{◌≡◌, ◌∙◌, refl, sym, ap, subst, ℕ, suc, ◌+◌, ◌≤◌, ◌==◌, ◌&&◌, nat_lt, arith, Bool, true, false, if◌then◌else◌, List, [], ◌∷◌, ◌++◌, length, map, length-append, append_assoc, Some, None, Result, Ok, Err}
+use Rattle.std.proofs.Common.{◌≡◌, ◌∙◌, refl, sym, ap, subst, ℕ, suc, ◌+◌, ◌≤◌, ◌==◌, ◌&&◌, nat_lt, arith, Bool, true, false, if◌then◌else◌, List, [], ◌∷◌, ◌++◌, length, map, length-append, append_assoc, Option, Some, None, Result, Ok, Err}
 use mathlib.Core.List.{IsPrefix}
 use Rattle.std.specs.Bool.{MatchBool, ⊤}
 use Rattle.std.proofs.lemmas.Bool.Decides.{nat_tests}
@@ -14,12 +14,13 @@ use Rattle.sfc_replay.specs.sfc_output.Commands.{command_text}
 use Rattle.sfc_replay.specs.sfc_output.Output.{Verdict, closing_lines, commands_lines, debugger_of, session_after, text_of}
 use Rattle.sfc_replay.specs.sfc_script.Lines.{begins_with_lf, in_line, lines_of}
 use Rattle.sfc_replay.specs.sfc_script.Scripts.{LinesRead, ScriptData, ScriptReads, and_then, joined, nothing_said}
-use Rattle.sfc_run.specs.Alarms.{AreTold, IsTold}
+use Rattle.sfc_run.specs.Alarms.{AreTold, IsHeard, IsSet, IsTold, rows_heard}
 use Rattle.sfc_run.specs.Following.{AnswersSo, command_of, steered_in}
-use Rattle.sfc_run.specs.Recording.{IsReadBack, goes_on, only, record_line, record_text}
+use Rattle.sfc_run.specs.Recording.{IsReadBack, goes_on, lost_after, only, record_line, record_text}
 use Rattle.sfc_run.specs.Records.{IsRecordOf, answered_lines, behind_rows, opened_on}
 use Rattle.sfc_run.specs.declared.alarms.Alarms.{Alarms}
 use Rattle.sfc_run.specs.declared.recording.Recording.{Recording}
+use Rattle.sfc_run.specs.declared.recording.Recording.TheVariants as recordings
 
 -- ---- what was recorded
 
@@ -38,16 +39,31 @@ record Kept (steered : Steered) (h : CommandHistory) (recording : Recording) (ro
   kept : AreKept steered h front
 
 -- nothing is recorded once that has ended
-ended : (old new : Alarms) (rows : List TraceRow) (h behind : CommandHistory) (text shown bytes : List ℕ)
-    → AreTold old new rows h behind text shown bytes → goes_on old.recording ≡ false → (bytes ≡ []) × (goes_on new.recording ≡ false)
+lost_off : (recording : Recording) → goes_on (lost_after recording) ≡ false
+lost_off recordings.Off = refl
+lost_off recordings.On = refl
+lost_off recordings.Lost = refl
+lost_off recordings.Unread = refl
+
+set_off : (old new : Alarms) (behind : CommandHistory) (text shown : List ℕ) → IsSet old new behind text shown → goes_on new.recording ≡ false
+set_off old new behind text shown set = ap goes_on set.recording ∙ lost_off old.recording
+
+one_off : (old new : Alarms) (one : Option TraceRow) (h behind : CommandHistory) (text shown put : List ℕ)
+    → IsHeard old new one h behind text shown put → goes_on old.recording ≡ false → (put ≡ []) × (goes_on new.recording ≡ false)
+one_off old new None h behind text shown put heard off = (heard.1, set_off old new behind text shown heard.0)
+one_off old new (Some row) h behind text shown put heard off =
+    let off_too : goes_on new.recording ≡ false = ap goes_on (heard.records.ended off) ∙ off in
+    (heard.records.none off_too, off_too)
+
+ended : (old new : Alarms) (heard : List (Option TraceRow)) (h behind : CommandHistory) (text shown bytes : List ℕ)
+    → AreTold old new heard h behind text shown bytes → goes_on old.recording ≡ false → (bytes ≡ []) × (goes_on new.recording ≡ false)
 ended old new [] h behind text shown bytes (same, now, none, empty, nothing) off =
     (nothing, ap (λ (a : Alarms). goes_on a.recording) same ∙ off)
-ended old new (row ∷ rows) h behind text shown bytes
-    (mid, between, some, rest, seen, others, put, puts, same, also, too, told, more) off =
-    let still : mid.recording ≡ old.recording = told.records.ended off in
-    let mid_off : goes_on mid.recording ≡ false = ap goes_on still ∙ off in
-    let later = ended mid new rows between behind rest others puts more mid_off in
-    (too ∙ (λ i. told.records.none mid_off i ++ later.0 i), later.1)
+ended old new (one ∷ heard) h behind text shown bytes
+    (mid, between, some, rest, seen, others, put, puts, same, also, too, is_heard, more) off =
+    let first = one_off old mid one h between some seen put is_heard off in
+    let later = ended mid new heard between behind rest others puts more first.1 in
+    (too ∙ (λ i. first.0 i ++ later.0 i), later.1)
 
 -- a row more in front of those that were recorded so
 kept_row : (old mid new : Alarms) (row : TraceRow) (rows : List TraceRow) (h between : CommandHistory) (some seen put puts bytes : List ℕ)
@@ -85,14 +101,29 @@ kept_row old mid new row rows h between some seen put puts bytes told too after 
       );
     }
 
-kept_rows : (old new : Alarms) (rows : List TraceRow) (h behind : CommandHistory) (text shown bytes : List ℕ)
-    → AreTold old new rows h behind text shown bytes → Kept (steered_in old.follower) h new.recording rows bytes
+-- nothing of rows, where recording has ended
+kept_none : (steered : Steered) (h : CommandHistory) (recording : Recording) (rows : List TraceRow) (bytes : List ℕ) → bytes ≡ []
+    → goes_on recording ≡ false → Kept steered h recording rows bytes
+kept_none steered h recording rows bytes none off = record {
+  front = [];
+  of_rows = (rows, refl);
+  whole = λ on. absurd (let bad : true ≡ false = sym on ∙ off in cc);
+  lines = none;
+  kept = tt;
+}
+
+kept_rows : (old new : Alarms) (heard : List (Option TraceRow)) (h behind : CommandHistory) (text shown bytes : List ℕ)
+    → AreTold old new heard h behind text shown bytes → Kept (steered_in old.follower) h new.recording (rows_heard heard) bytes
 kept_rows old new [] h behind text shown bytes (same, now, none, empty, nothing) =
     record { front = []; of_rows = ([], refl); whole = λ on. refl; lines = nothing; kept = tt }
-kept_rows old new (row ∷ rows) h behind text shown bytes
+kept_rows old new (None ∷ heard) h behind text shown bytes
+    (mid, between, some, rest, seen, others, put, puts, same, also, too, set, more) =
+    let later = ended mid new heard between behind rest others puts more (set_off old mid between some seen set.0) in
+    kept_none (steered_in old.follower) h new.recording (rows_heard heard) bytes (too ∙ (λ i. set.1 i ++ later.0 i)) later.1
+kept_rows old new (Some row ∷ heard) h behind text shown bytes
     (mid, between, some, rest, seen, others, put, puts, same, also, too, told, more) =
-    kept_row old mid new row rows h between some seen put puts bytes told too
-    (kept_rows mid new rows between behind rest others puts more) (ended mid new rows between behind rest others puts more)
+    kept_row old mid new row (rows_heard heard) h between some seen put puts bytes told too
+    (kept_rows mid new heard between behind rest others puts more) (ended mid new heard between behind rest others puts more)
     (goes_on mid.recording) refl
 
 -- a front of them
@@ -243,13 +274,13 @@ module _ (steered : Steered) where
       ∙ ap (λ (t : List ℕ). (text_of steered).command (s.state (command_of row ∷ h)) (command_of row) (Ok row.answer) ++ t)
       (written (command_of row ∷ h) rows more)
 
-pub is_record : (chart : List ℕ) (plant : PlantData) (old new : Alarms) (rows : List TraceRow) (behind : CommandHistory)
+pub is_record : (chart : List ℕ) (plant : PlantData) (old new : Alarms) (heard : List (Option TraceRow)) (behind : CommandHistory)
     (text shown bytes : List ℕ) → IsAccepted chart plant → steered_in old.follower ≡ opened_on plant
-    → AreTold old new rows [] behind text shown bytes → IsRecordOf chart plant new.recording rows bytes
-is_record chart plant old new rows behind text shown bytes loaded opened told =
+    → AreTold old new heard [] behind text shown bytes → IsRecordOf chart plant new.recording (rows_heard heard) bytes
+is_record chart plant old new heard behind text shown bytes loaded opened told =
     let st : Steered = opened_on plant in
-    let k : Kept st [] new.recording rows bytes =
-    subst (λ (s : Steered). Kept s [] new.recording rows bytes) opened (kept_rows old new rows [] behind text shown bytes told) in
+    let k : Kept st [] new.recording (rows_heard heard) bytes =
+    subst (λ (s : Steered). Kept s [] new.recording (rows_heard heard) bytes) opened (kept_rows old new heard [] behind text shown bytes told) in
     record {
       front = k.front;
       of_rows = k.of_rows;

@@ -11,10 +11,9 @@ use Rattle.sfc_control.specs.sfc_debug.Agreement.{Agrees}
 use Rattle.sfc_control.specs.sfc_debug.Histories.{CommandHistory}
 use Rattle.sfc_control.specs.sfc_debug.Steered.{Steered}
 use Rattle.sfc_control.specs.sfc_debug.declared.trace_mask.TraceMask.{TraceMask}
-use Rattle.sfc_run.specs.Alarms.{AreTold, IsTold}
+use Rattle.sfc_run.specs.Alarms.{AreTold, Hears, IsHeard, IsSet, IsTold, rows_heard, with_heard}
 use Rattle.sfc_run.specs.Following.{debugger_in}
 use Rattle.sfc_run.specs.Printing.{line_if, rows_text, IsEndTold, Notes, Takes, Reaches, ReadsAlike, Passes, Puts, Tells, steered_of}
-use Rattle.sfc_run.specs.Printing as printing
 use Rattle.sfc_run.specs.Recording.{IsNote, end_note, told_note}
 use Rattle.sfc_run.specs.declared.alarms.Alarms.{Alarms}
 use Rattle.sfc_run.specs.declared.alarms.Told.{Told}
@@ -27,15 +26,20 @@ use Rattle.sfc_run.specs.declared.watch.Watch.{Watch}
 -- ---- what is told of rows, and then of more
 
 -- the debugger that follows stands behind those commands then
-told_agrees : (old new : Alarms) (rows : List TraceRow) (h behind : CommandHistory) (text shown recorded : List ℕ)
-    → AreTold old new rows h behind text shown recorded → Agrees (debugger_in old.follower) h → Agrees (debugger_in new.follower) behind
+heard_agrees : (old new : Alarms) (one : Option TraceRow) (h behind : CommandHistory) (text shown recorded : List ℕ)
+    → IsHeard old new one h behind text shown recorded → Agrees (debugger_in new.follower) behind
+heard_agrees old new None h behind text shown recorded heard = heard.0.agrees
+heard_agrees old new (Some row) h behind text shown recorded heard = heard.alarmed.follows.agrees
+
+told_agrees : (old new : Alarms) (heard : List (Option TraceRow)) (h behind : CommandHistory) (text shown recorded : List ℕ)
+    → AreTold old new heard h behind text shown recorded → Agrees (debugger_in old.follower) h → Agrees (debugger_in new.follower) behind
 told_agrees old new [] h behind text shown recorded (same, now, none, empty, nothing) agrees =
     subst (λ (a : Alarms). Agrees (debugger_in a.follower) behind) (sym same)
     (subst (λ (x : CommandHistory). Agrees (debugger_in old.follower) x) (sym now) agrees)
-told_agrees old new (row ∷ rows) h behind text shown recorded (mid, between, some, rest, seen, others, put, puts, same, also, too, one, more) agrees =
-    told_agrees mid new rows between behind rest others puts more one.alarmed.follows.agrees
+told_agrees old new (one ∷ heard) h behind text shown recorded (mid, between, some, rest, seen, others, put, puts, same, also, too, is_heard, more) agrees =
+    told_agrees mid new heard between behind rest others puts more (heard_agrees old mid one h between some seen put is_heard)
 
-told_then : (old mid new : Alarms) (a b : List TraceRow) (h between behind : CommandHistory) (some rest seen others put puts : List ℕ)
+told_then : (old mid new : Alarms) (a b : List (Option TraceRow)) (h between behind : CommandHistory) (some rest seen others put puts : List ℕ)
     → AreTold old mid a h between some seen put → AreTold mid new b between behind rest others puts
     → AreTold old new (a ++ b) h behind (some ++ rest) (seen ++ others) (put ++ puts)
 told_then old mid new [] b h between behind some rest seen others put puts (same, now, none, empty, nothing) more =
@@ -44,27 +48,27 @@ told_then old mid new [] b h between behind some rest seen others put puts (same
     (subst (λ (t : List ℕ). AreTold old new b h behind rest others (t ++ puts)) (sym nothing)
     (subst (λ (x : CommandHistory). AreTold old new b x behind rest others puts) now
     (subst (λ (m : Alarms). AreTold m new b between behind rest others puts) same more))))
-told_then old mid new (row ∷ a) b h between behind some rest seen others put puts
-    (first, after, one, more, look, looks, line, lines, same, also, too, is_told, told) then = (
+told_then old mid new (one ∷ a) b h between behind some rest seen others put puts
+    (first, after, one_text, more, look, looks, line, lines, same, also, too, is_heard, told) then = (
       first,
       after,
-      one,
+      one_text,
       more ++ rest,
       look,
       looks ++ others,
       line,
       lines ++ puts,
-      ap (λ (t : List ℕ). t ++ rest) same ∙ append_assoc one more rest,
+      ap (λ (t : List ℕ). t ++ rest) same ∙ append_assoc one_text more rest,
       ap (λ (t : List ℕ). t ++ others) also ∙ append_assoc look looks others,
       ap (λ (t : List ℕ). t ++ puts) too ∙ append_assoc line lines puts,
-      is_told,
+      is_heard,
       told_then first mid new a b after between behind more rest looks others lines puts told then,
     )
 
--- a row by itself
-told_one : (old new : Alarms) (row : TraceRow) (h behind : CommandHistory) (text shown recorded : List ℕ)
-    → IsTold old new row h behind text shown recorded → AreTold old new (row ∷ []) h behind text shown recorded
-told_one old new row h behind text shown recorded told = (
+-- a row by itself, and all that was set again
+told_one : (old new : Alarms) (one : Option TraceRow) (h behind : CommandHistory) (text shown recorded : List ℕ)
+    → IsHeard old new one h behind text shown recorded → AreTold old new (one ∷ []) h behind text shown recorded
+told_one old new one h behind text shown recorded heard = (
   new,
   behind,
   text,
@@ -76,8 +80,80 @@ told_one old new row h behind text shown recorded told = (
   sym (append-nil text),
   sym (append-nil shown),
   sym (append-nil recorded),
-  told,
+  heard,
   (refl, refl, refl, refl, refl),
+)
+
+with_more : (one : Option TraceRow) (rows more : List TraceRow) → with_heard one (rows ++ more) ≡ with_heard one rows ++ more
+with_more None rows more = refl
+with_more (Some row) rows more = refl
+
+heard_more : (a b : List (Option TraceRow)) → rows_heard (a ++ b) ≡ rows_heard a ++ rows_heard b
+heard_more [] b = refl
+heard_more (one ∷ a) b = ap (λ (rows : List TraceRow). with_heard one rows) (heard_more a b) ∙ with_more one (rows_heard a) (rows_heard b)
+
+-- the rows of both
+heard_then : (a b : List (Option TraceRow)) (rows more : List TraceRow) → rows_heard a ≡ rows → rows_heard b ≡ more
+    → rows_heard (a ++ b) ≡ rows ++ more
+heard_then a b rows more one two = heard_more a b ∙ (λ i. one i ++ two i)
+
+pub hears_none : (alarms : Alarms) (told : Told) → Hears alarms alarms [] told told
+hears_none alarms told h agrees = (
+  [],
+  refl,
+  h,
+  [],
+  [],
+  [],
+  sym (append-nil told.alarms.items),
+  sym (append-nil told.changes.items),
+  sym (append-nil told.record.items),
+  (refl, refl, refl, refl, refl),
+)
+
+pub hears_then : (old mid new : Alarms) (a b : List TraceRow) (before text after : Told)
+    → Hears old mid a before text → Hears mid new b text after → Hears old new (a ++ b) before after
+hears_then old mid new a b before text after one two h agrees =
+    let first = one h agrees in
+    let then = two first.2 (told_agrees old mid first.0 h first.2 first.3 first.4 first.5 first.9 agrees) in (
+      first.0 ++ then.0,
+      heard_then first.0 then.0 a b first.1 then.1,
+      then.2,
+      first.3 ++ then.3,
+      first.4 ++ then.4,
+      first.5 ++ then.5,
+      then.6 ∙ ap (λ (t : List ℕ). t ++ then.3) first.6 ∙ append_assoc before.alarms.items first.3 then.3,
+      then.7 ∙ ap (λ (t : List ℕ). t ++ then.4) first.7 ∙ append_assoc before.changes.items first.4 then.4,
+      then.8 ∙ ap (λ (t : List ℕ). t ++ then.5) first.8 ∙ append_assoc before.record.items first.5 then.5,
+      told_then old mid new first.0 then.0 h first.2 then.2 first.3 then.3 first.4 then.4 first.5 then.5 first.9 then.9,
+    )
+
+-- a row by itself
+pub hears_row : (old new : Alarms) (row : TraceRow) (before after : Told)
+    → ((h : CommandHistory) → Agrees (debugger_in old.follower) h
+    → (behind : CommandHistory) × (some : List ℕ) × (seen : List ℕ) × (put : List ℕ)
+    × (after.alarms.items ≡ before.alarms.items ++ some) × (after.changes.items ≡ before.changes.items ++ seen)
+    × (after.record.items ≡ before.record.items ++ put) × IsTold old new row h behind some seen put)
+    → Hears old new (row ∷ []) before after
+hears_row old new row before after told h agrees =
+    let t = told h agrees in
+    (Some row ∷ [], refl, t.0, t.1, t.2, t.3, t.4, t.5, t.6, told_one old new (Some row) h t.0 t.1 t.2 t.3 t.7)
+
+-- all was set again
+pub hears_set : (old new : Alarms) (before after : Told) (behind : CommandHistory) (text shown : List ℕ)
+    → after.alarms.items ≡ before.alarms.items ++ text → after.changes.items ≡ before.changes.items ++ shown
+    → after.record.items ≡ before.record.items → IsSet old new behind text shown → Hears old new [] before after
+hears_set old new before after behind text shown told changes same set h agrees = (
+  None ∷ [],
+  refl,
+  behind,
+  text,
+  shown,
+  [],
+  told,
+  changes,
+  same ∙ sym (append-nil before.record.items),
+  told_one old new None h behind text shown [] (set, refl),
 )
 
 -- ---- rows and their lines
@@ -104,21 +180,6 @@ rows_then old mid a b alike =
 alike_then : (old mid new : Watch) → ReadsAlike old mid → ReadsAlike mid new → ReadsAlike old new
 alike_then old mid new one two = (two.0 ∙ one.0, two.1 ∙ one.1)
 
-alarms_then : (old mid new : Watch) (a b : List TraceRow) (before text after : Told)
-    → printing.Alarms old mid a before text → printing.Alarms mid new b text after → printing.Alarms old new (a ++ b) before after
-alarms_then old mid new a b before text after one two h agrees =
-    let first = one h agrees in
-    let then = two first.0 (told_agrees old.alarms mid.alarms a h first.0 first.1 first.2 first.3 first.7 agrees) in (
-      then.0,
-      first.1 ++ then.1,
-      first.2 ++ then.2,
-      first.3 ++ then.3,
-      then.4 ∙ ap (λ (t : List ℕ). t ++ then.1) first.4 ∙ append_assoc before.alarms.items first.1 then.1,
-      then.5 ∙ ap (λ (t : List ℕ). t ++ then.2) first.5 ∙ append_assoc before.changes.items first.2 then.2,
-      then.6 ∙ ap (λ (t : List ℕ). t ++ then.3) first.6 ∙ append_assoc before.record.items first.3 then.3,
-      told_then old.alarms mid.alarms new.alarms a b h first.0 then.0 first.1 then.1 first.2 then.2 first.3 then.3 first.7 then.7,
-    )
-
 pub puts_then : (old mid new : Watch) (a b : List TraceRow) (before text after : Texts)
     → Puts old mid a before text → Puts mid new b text after → Puts old new (a ++ b) before after
 puts_then old mid new a b before text after one two = record {
@@ -126,7 +187,7 @@ puts_then old mid new a b before text after one two = record {
   lines = two.lines ∙ ap (λ (t : List ℕ). t ++ rows_text mid.wanted (steered_of mid) b) one.lines
       ∙ append_assoc before.lines.items (rows_text old.wanted (steered_of old) a) (rows_text mid.wanted (steered_of mid) b)
       ∙ ap (λ (t : List ℕ). before.lines.items ++ t) (rows_then old mid a b one.alike);
-  alarms = alarms_then old mid new a b before.told text.told after.told one.alarms two.alarms;
+  alarms = hears_then old.alarms mid.alarms new.alarms a b before.told text.told after.told one.alarms two.alarms;
 }
 
 -- some rows were taken, and their lines and alarms stand behind the texts
@@ -140,37 +201,33 @@ none_yet watch texts = (
   record {
     alike = (refl, refl);
     lines = sym (append-nil texts.lines.items);
-    alarms = λ h agrees. (
-      h,
-      [],
-      [],
-      [],
-      sym (append-nil texts.told.alarms.items),
-      sym (append-nil texts.told.changes.items),
-      sym (append-nil texts.told.record.items),
-      (refl, refl, refl, refl, refl),
-    );
+    alarms = hears_none watch.alarms texts.told;
   },
+)
+
+-- where all was set again, if it was, behind what was taken
+pub set_then : (old mid new : Watch) (before text after : Texts) → Along old mid before text → taken new.tail ≡ taken mid.tail
+    → ReadsAlike mid new → after.lines.items ≡ text.lines.items → Hears mid.alarms new.alarms [] text.told after.told
+    → Along old new before after
+set_then old mid new before text after was same alike lines hears = (
+  was.0 ++ [],
+  takes_more old.tail mid.tail new.tail was.0 [] was.1 (same ∙ sym (append-nil (taken mid.tail))),
+  puts_then old mid new was.0 [] before text after was.2
+      (record { alike = alike; lines = lines ∙ sym (append-nil text.lines.items); alarms = hears }),
 )
 
 -- one row more: it was taken, its line was put, and it was told of
 pub one_more : (old mid new : Watch) (before text after : Texts) (row : TraceRow) → Along old mid before text
     → Takes mid.tail new.tail (row ∷ []) → ReadsAlike mid new
     → after.lines.items ≡ text.lines.items ++ line_if mid.wanted (steered_of mid) row
-    → ((h : CommandHistory) → Agrees (debugger_in mid.alarms.follower) h
-    → (behind : CommandHistory) × (some : List ℕ) × (seen : List ℕ) × (put : List ℕ)
-    × (after.told.alarms.items ≡ text.told.alarms.items ++ some) × (after.told.changes.items ≡ text.told.changes.items ++ seen)
-    × (after.told.record.items ≡ text.told.record.items ++ put) × IsTold mid.alarms new.alarms row h behind some seen put)
-    → Along old new before after
-one_more old mid new before text after row was takes alike line told = (
+    → Hears mid.alarms new.alarms (row ∷ []) text.told after.told → Along old new before after
+one_more old mid new before text after row was takes alike line hears = (
   was.0 ++ row ∷ [],
   takes_more old.tail mid.tail new.tail was.0 (row ∷ []) was.1 takes,
   puts_then old mid new was.0 (row ∷ []) before text after was.2 (record {
     alike = alike;
     lines = line ∙ ap (λ (t : List ℕ). text.lines.items ++ t) (sym (append-nil (line_if mid.wanted (steered_of mid) row)));
-    alarms = λ h agrees.
-        let t = told h agrees in
-        (t.0, t.1, t.2, t.3, t.4, t.5, t.6, told_one mid.alarms new.alarms row h t.0 t.1 t.2 t.3 t.7);
+    alarms = hears;
   }),
 )
 
@@ -217,18 +274,22 @@ module _ {W T F : Type 0} (wc : W → Option (List ℕ)) (tc : T → Option (Lis
       → Tells wc tc fc old mid a → Tells wc tc fc mid new b → Tells wc tc fc old new (a ++ b)
   tells_then old mid new a b one two h agrees =
       let first = one h agrees in
-      let then = two first.0 (told_agrees old.watch.alarms mid.watch.alarms a h first.0 first.1 first.2 first.3 first.4 agrees) in (
-        then.0,
-        first.1 ++ then.1,
-        first.2 ++ then.2,
+      let then = two first.2
+      (told_agrees old.watch.alarms mid.watch.alarms first.0 h first.2 first.3 first.4 first.5 first.6 agrees) in (
+        first.0 ++ then.0,
+        heard_then first.0 then.0 a b first.1 then.1,
+        then.2,
         first.3 ++ then.3,
-        told_then old.watch.alarms mid.watch.alarms new.watch.alarms a b h first.0 then.0 first.1 then.1 first.2 then.2 first.3 then.3 first.4 then.4,
+        first.4 ++ then.4,
+        first.5 ++ then.5,
+        told_then old.watch.alarms mid.watch.alarms new.watch.alarms first.0 then.0 h first.2 then.2 first.3 then.3 first.4 then.4 first.5 then.5
+            first.6 then.6,
         passes_then old.teller.has_failed mid.teller.has_failed new.teller.has_failed (tc old.teller.w) (tc mid.teller.w) (tc new.teller.w)
-            first.1 then.1 first.5 then.5,
+            first.3 then.3 first.7 then.7,
         passes_then old.shower.has_failed mid.shower.has_failed new.shower.has_failed (wc old.shower.w) (wc mid.shower.w) (wc new.shower.w)
-            first.2 then.2 first.6 then.6,
+            first.4 then.4 first.8 then.8,
         passes_then old.recorder.file.has_failed mid.recorder.file.has_failed new.recorder.file.has_failed
-            (fc old.recorder.file.w) (fc mid.recorder.file.w) (fc new.recorder.file.w) first.3 then.3 first.7 then.7,
+            (fc old.recorder.file.w) (fc mid.recorder.file.w) (fc new.recorder.file.w) first.5 then.5 first.9 then.9,
       )
 
   notes_then : (old mid new : Printing W T F) → Notes wc tc fc old mid → Notes wc tc fc mid new → Notes wc tc fc old new
@@ -255,6 +316,8 @@ module _ {W T F : Type 0} (wc : W → Option (List ℕ)) (tc : T → Option (Lis
     (
       (refl, refl),
       λ h agrees. (
+        [],
+        refl,
         h,
         [],
         [],

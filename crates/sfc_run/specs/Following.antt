@@ -1,8 +1,13 @@
 -- A debugger that follows a run, row by row of its feed.
-use Rattle.std.specs.Prelude.{ℕ, ◌≡◌, ◌+◌, Bool, true, ◌∷◌, Ok}
+use Rattle.std.specs.Prelude.{ℕ, ◌≡◌, ◌+◌, Bool, true, List, ◌∷◌, Ok}
 use Rattle.sfc_events.specs.declared.command.TraceRow.{TraceRow}
+use Rattle.sfc_plant.specs.Plants.{PlantData}
 use Rattle.sfc_control.specs.sfc_debug.Agreement.{Agrees}
 use Rattle.sfc_control.specs.sfc_debug.Histories.{CommandHistory, TimedCommand}
+use Rattle.sfc_control.specs.sfc_debug.Openings.{past_of}
+use Rattle.sfc_control.specs.sfc_debug.Past.{debug_past}
+use Rattle.sfc_control.specs.sfc_debug.declared.break_condition.BreakCondition.{BreakCondition}
+use Rattle.sfc_control.specs.sfc_debug.declared.opening.DebugOpening.{DebugOpening}
 use Rattle.sfc_control.specs.sfc_debug.Steered.{Steered, steered_by}
 use Rattle.sfc_control.specs.sfc_debug.declared.debugger.Debugger.{Debugger}
 use Rattle.sfc_replay.specs.sfc_output.Output as output
@@ -16,7 +21,7 @@ debugger_in follower = follower.debugger
 unfoldable pub newest_in : Follower → ℕ
 newest_in follower = follower.newest
 
--- no row was lost, and each command was answered as the run answered it
+-- no row was lost, and each command was answered as the run answered it, since the first or since it went on from an opening
 unfoldable pub is_level : Follower → Bool
 is_level follower = follower.is_level
 
@@ -40,3 +45,12 @@ pub record Follows (old new : Follower) (row : TraceRow) (h behind : CommandHist
   pub level : is_level new ≡ true → (is_level old ≡ true) × (row.number ≡ newest_in old + 1)
       × (behind ≡ command_of row ∷ h) × AnswersSo (steered_in old) h row
   pub stays : is_level old ≡ true → row.number ≡ newest_in old + 1 → AnswersSo (steered_in old) h row → is_level new ≡ true
+
+-- ---- openings
+
+abbrev pub steered_on : PlantData → List BreakCondition → Steered
+steered_on plant table = record { plant = plant; table = table }
+
+-- it stands for these commands
+abbrev pub HasPast : Steered → DebugOpening → CommandHistory → Type 0
+HasPast steered opening h = past_of steered.plant opening ≡ debug_past steered.plant steered.table h

@@ -28,6 +28,8 @@ pub mod Screens
 pub mod Picking
 -- the record of a run
 pub mod Recording
+-- where it goes on behind lost rows
+pub mod Resuming
 -- what is told beside the lines
 pub mod Alarms
 -- what a replay of the record writes

@@ -1,5 +1,6 @@
 -- When lost rows of a feed are told: at most once a second, but for those before an urgent row (our choice).
-use Rattle.std.specs.Prelude.{ℕ, ◌+◌, ◌-◌, ◌^◌, ◌==◌, min, Bool, ◌||◌, if◌then◌else◌, ℤ, pos, ◌+ℤ◌, ◌-ℤ◌, int_le}
+use Rattle.std.specs.Prelude.{ℕ, ◌+◌, ◌-◌, ◌^◌, ◌==◌, min, Bool, ◌||◌, if◌then◌else◌, List, ◌++◌, codes, ℤ, pos, ◌+ℤ◌, ◌-ℤ◌, int_le}
+use Rattle.std.specs.Fmt.{decimal}
 use Rattle.std.specs.Int.{saturate_signed, w64}
 use Rattle.sfc_run.specs.declared.losses.Losses.{Losses}
 
@@ -24,3 +25,11 @@ abbrev pub losses_after : Losses → ℕ → ℤ → Bool → Losses
 losses_after losses lost t is_urgent =
     if may_tell losses t is_urgent then record { waiting = 0; t = if waiting_with losses lost == 0 then losses.t else t }
     else record { waiting = waiting_with losses lost; t = losses.t }
+
+-- none waits any more
+abbrev pub none_waiting : Losses → Losses
+none_waiting losses = record { waiting = 0; t = losses.t }
+
+-- it is known again how all stands, behind so many commands
+abbrev pub known_text : ℕ → List ℕ
+known_text count = codes "known again behind " ++ decimal count ++ codes " commands\n"

@@ -4,18 +4,21 @@ use mathlib.Core.List.{IsPrefix}
 use Rattle.std.specs.Io.KnownBytes.{Appends}
 use Rattle.sfc_base.specs.Writing.{AppendsFront, Writes}
 use Rattle.sfc_events.specs.declared.command.TraceRow.{TraceRow}
+use Rattle.sfc_plant.specs.Plants.{PlantData}
 use Rattle.sfc_control.specs.declared.tail.Tail.{Tail}
 use Rattle.sfc_control.specs.Tails.{taken, coming}
 use Rattle.sfc_control.specs.sfc_debug.Agreement.{Agrees}
 use Rattle.sfc_control.specs.sfc_debug.Histories.{CommandHistory}
-use Rattle.sfc_control.specs.sfc_debug.Steered.{Steered}
+use Rattle.sfc_control.specs.sfc_debug.Steered.{Steered, steered_by}
+use Rattle.sfc_control.specs.sfc_debug.declared.break_condition.BreakCondition.{BreakCondition}
 use Rattle.sfc_control.specs.sfc_debug.Tracing.{is_wanted}
 use Rattle.sfc_control.specs.sfc_debug.declared.trace_mask.TraceMask.{TraceMask}
 use Rattle.sfc_replay.specs.sfc_output.Commands.{row_line}
-use Rattle.sfc_run.specs.Alarms.{AreTold}
-use Rattle.sfc_run.specs.Following.{debugger_in, steered_in}
-use Rattle.sfc_run.specs.declared.alarms.Told.{Told}
+use Rattle.sfc_run.specs.Alarms.{AreTold, Hears, rows_heard}
+use Rattle.sfc_run.specs.Following.{debugger_in, steered_in, steered_on}
 use Rattle.sfc_run.specs.Recording.{IsNote, end_note}
+use Rattle.sfc_run.specs.Resuming.{IsReady}
+use Rattle.sfc_run.specs.Screens.{before_in}
 use Rattle.sfc_run.specs.declared.printing.Printing.{Printing}
 use Rattle.sfc_run.specs.declared.recording.Recorder.{Recorder}
 use Rattle.sfc_run.specs.declared.recording.Recording.{Recording}
@@ -47,20 +50,20 @@ steered_of watch = steered_in watch.alarms.follower
 abbrev pub ReadsAlike : Watch → Watch → Type 0
 ReadsAlike old new = (new.wanted ≡ old.wanted) × (steered_of new ≡ steered_of old)
 
--- What is told of rows, what is shown, and what is recorded stand behind the three texts.
-abbrev pub Alarms : Watch → Watch → List TraceRow → Told → Told → Type 0
-Alarms old new rows before after =
-    (h : CommandHistory) → Agrees (debugger_in old.alarms.follower) h
-    → (behind : CommandHistory) × (text : List ℕ) × (shown : List ℕ) × (recorded : List ℕ)
-    × (after.alarms.items ≡ before.alarms.items ++ text) × (after.changes.items ≡ before.changes.items ++ shown)
-    × (after.record.items ≡ before.record.items ++ recorded)
-    × AreTold old.alarms new.alarms rows h behind text shown recorded
+-- where it goes on behind lost rows was saved, and its screen is of the same plant
+pub record GoesOn (watch : Watch) : Type 0 where
+  pub ready : IsReady (steered_of watch) watch.resumption
+  pub alike : steered_by (before_in watch.alarms.screen) ≡ steered_of watch
+
+-- and it follows a run of this plant, with this table of conditions
+abbrev pub FollowsRun : PlantData → List BreakCondition → Watch → Type 0
+FollowsRun plant table watch = (steered_of watch ≡ steered_on plant table) × GoesOn watch
 
 -- The lines of rows, their alarms and what is shown of them stand behind the texts.
 pub record Puts (old new : Watch) (rows : List TraceRow) (before after : Texts) : Type 0 where
   pub alike : ReadsAlike old new
   pub lines : after.lines.items ≡ before.lines.items ++ rows_text old.wanted (steered_of old) rows
-  pub alarms : Alarms old new rows before.told after.told
+  pub alarms : Hears old.alarms new.alarms rows before.told after.told
 
 -- some rows were taken, and where it succeeded their lines and alarms stand behind the texts
 abbrev pub Gathers : Watch → Watch → Texts → Texts → {X E : Type 0} → Result X E → Type 0
@@ -85,8 +88,9 @@ module _ {W T F : Type 0} (contents_of_lines : W → Option (List ℕ)) (content
   abbrev pub Tells : Printing W T F → Printing W T F → List TraceRow → Type 0
   Tells old new rows =
       (h : CommandHistory) → Agrees (debugger_in old.watch.alarms.follower) h
-      → (behind : CommandHistory) × (text : List ℕ) × (shown : List ℕ) × (recorded : List ℕ)
-      × AreTold old.watch.alarms new.watch.alarms rows h behind text shown recorded
+      → (heard : List (Option TraceRow)) × (rows_heard heard ≡ rows)
+      × (behind : CommandHistory) × (text : List ℕ) × (shown : List ℕ) × (recorded : List ℕ)
+      × AreTold old.watch.alarms new.watch.alarms heard h behind text shown recorded
       × Passes new.teller.has_failed old.teller.has_failed (contents_of_alarms old.teller.w) (contents_of_alarms new.teller.w) text
       × Passes new.shower.has_failed old.shower.has_failed (contents_of_lines old.shower.w) (contents_of_lines new.shower.w) shown
       × Passes new.recorder.file.has_failed old.recorder.file.has_failed

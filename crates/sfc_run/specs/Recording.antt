@@ -44,6 +44,11 @@ pub record IsRecorded (old new : Recording) (follower : Follower) (row : TraceRo
       → IsReadBack (steered_in follower).plant (record_line (steered_in follower) row) row → goes_on new ≡ true
   pub ended : goes_on old ≡ false → new ≡ old
 
+-- where rows were lost it doesn't go on
+abbrev pub lost_after : Recording → Recording
+lost_after On = Lost
+lost_after recording = recording
+
 -- ---- its end
 
 -- why nothing more is recorded

@@ -1,10 +1,11 @@
 -- What is shown of a run where it changes (our choice of format).
-use Rattle.std.specs.Prelude.{ℕ, ◌≡◌, ◌==◌, Bool, true, false, not, ◌&&◌, ◌||◌, List, [], ◌∷◌, ◌++◌}
+use Rattle.std.specs.Prelude.{ℕ, ◌≡◌, ◌-◌, ◌^◌, ◌==◌, Bool, true, false, not, ◌&&◌, ◌||◌, List, [], ◌∷◌, ◌++◌}
 use Rattle.sfc_events.specs.declared.command.Answer.{Answer}
 use Rattle.sfc_events.specs.declared.command.Answer.TheVariants.{Scanned}
 use Rattle.sfc_events.specs.declared.command.Command.{Command}
 use Rattle.sfc_events.specs.declared.command.Command.TheVariants.{End}
 use Rattle.sfc_events.specs.declared.command.TraceRow.{TraceRow}
+use Rattle.sfc_events.specs.InstanceSets.{no_instance, set_of}
 use Rattle.sfc_control.specs.sfc_debug.Agreement.{Agrees}
 use Rattle.sfc_control.specs.sfc_debug.Histories.{CommandHistory}
 use Rattle.sfc_control.specs.sfc_debug.Steered.{Steered, steered_by}
@@ -14,6 +15,7 @@ use Rattle.sfc_panel.specs.declared.panel.Panel.{Panel}
 use Rattle.sfc_replay.specs.sfc_output.Commands.{row_line}
 use Rattle.sfc_replay.specs.sfc_output.Output as output
 use Rattle.sfc_run.specs.Following.{AnswersSo, command_of, debugger_in, is_level, steered_in}
+use Rattle.sfc_run.specs.Losses.{known_text}
 use Rattle.sfc_run.specs.declared.follower.Follower.{Follower}
 use Rattle.sfc_run.specs.declared.screen.Screen.{Screen}
 use Rattle.sfc_run.specs.declared.screen.Shows.{Shows}
@@ -60,6 +62,22 @@ abbrev pub shown_text : Shows → Bool → Steered → CommandHistory → Comman
 shown_text shows is_level steered h behind row =
     headed steered row (changed_text (shows.is_on && is_level) shows.panel steered h behind row.answer
     ++ closing_text (closes row) shows.at_end.items)
+
+-- an answer by which each program is shown that stands otherwise than before
+abbrev pub of_each : Answer
+of_each = Scanned (set_of (2 ^ 64 - 1)) no_instance no_instance 0 false
+
+-- What is shown where it is known again how all stands, behind so many commands, which are those: what has changed since these.
+abbrev pub again_text : Panel → Steered → ℕ → CommandHistory → CommandHistory → List ℕ
+again_text panel steered count h behind = known_text count ++ changes_text panel steered h behind of_each
+
+abbrev pub again_by : Bool → Panel → Steered → ℕ → CommandHistory → CommandHistory → List ℕ
+again_by true panel steered count h behind = again_text panel steered count h behind
+again_by false panel steered count h behind = []
+
+-- the same, where changes are shown
+abbrev pub again_if : Shows → Steered → ℕ → CommandHistory → CommandHistory → List ℕ
+again_if shows steered count h behind = again_by shows.is_on shows.panel steered count h behind
 
 -- The debugger of a screen stands behind those commands, where it is used: what changes is shown, and the follower is level.
 pub record Mirrors (screen : Screen) (follower : Follower) (h : CommandHistory) : Type 0 where

@@ -2,15 +2,19 @@
 //! it shows where it changes; and what it records.
 
 ghost use Rattle.std.specs.Prelude.{◌≡◌, ◌<◌, ◌++◌, List, ℕ, OnOk, length};
+ghost use Rattle.sfc_events.specs.History.{History};
 ghost use Rattle.sfc_events.specs.InstanceSets.{has};
 ghost use Rattle.sfc_control.specs.sfc_debug.Agreement.{Agrees};
 ghost use Rattle.sfc_control.specs.sfc_debug.Histories.{CommandHistory};
 ghost use Rattle.sfc_control.specs.sfc_debug.Steered.{steered_by};
+ghost use Rattle.sfc_control.specs.sfc_debug.sfc_core.Agreement as core;
+ghost use Rattle.sfc_control.specs.sfc_debug.sfc_core.PlantState as plant_state;
 ghost use Rattle.sfc_replay.specs.sfc_output.Output as output;
 ghost use Rattle.sfc_run.specs.Alarms as rules;
 ghost use Rattle.sfc_run.specs.Alarms.{IsAlarmed, IsTold};
 ghost use Rattle.sfc_run.specs.Following.{debugger_in, is_level, steered_in};
 ghost use Rattle.sfc_run.specs.Losses.{losses_after, told_with};
+ghost use Rattle.sfc_run.specs.Screens.{before_in};
 
 use crate::follower::Follower;
 use crate::losses::Losses;
@@ -18,9 +22,11 @@ use crate::overruns::OverrunsTold;
 use crate::points::Points;
 use crate::recording::Recording;
 use crate::screen::{Screen, is_end};
+use crate::sfc_core::resource::Resource;
 use crate::sfc_debug::debugger::Debugger;
 use crate::sfc_output::answer::append_answer;
 use crate::sfc_output::command::append_row;
+use crate::sfc_output::fault_place::append_faulted;
 use crate::timing::Timing;
 use sfc_base::ids::ProgId;
 use sfc_events::command::{Answer, TraceRow};
@@ -42,7 +48,7 @@ pub struct Alarms {
     pub screen: Screen,
     /// Whether commands are recorded.
     pub recording: Recording,
-    /// The commands that set and took breakpoints.
+    /// The commands whose breakpoints are set.
     pub points: Points,
     /// How late scans were, where that is measured.
     pub timing: Timing,
@@ -77,7 +83,7 @@ fn is_urgent(row: TraceRow) -> bool
 }
 
 // How many rows were lost, where some were.
-fn append_lost(out: &mut Vec<u8>, lost: u64) -> Result<(), AllocError>
+pub(crate) fn append_lost(out: &mut Vec<u8>, lost: u64) -> Result<(), AllocError>
     ensures { OnOk result (out.new.items ≡ out.old.items ++ rules.lost_text lost) }
 {
     if lost == 0 {
@@ -146,13 +152,76 @@ fn append_faults(out: &mut Vec<u8>, plant: &Plant, faulted: InstanceSet) -> Resu
 }
 
 // The same by an answer.
-fn append_faulted(out: &mut Vec<u8>, plant: &Plant, answer: Answer) -> Result<(), AllocError>
+fn append_all_faults(out: &mut Vec<u8>, plant: &Plant, answer: Answer) -> Result<(), AllocError>
     ensures { OnOk result (out.new.items ≡ out.old.items ++ rules.faulted_text plant.now answer) }
 {
     match answer {
         Answer::Scanned { faulted, .. } => append_faults(out, plant, faulted),
         _ => Ok(()),
     }
+}
+
+// Where the fault of a program is, where its scan ended with one.
+fn append_ended(
+    out: &mut Vec<u8>,
+    resource: &Resource,
+    program: ProgId,
+    faulted: InstanceSet,
+) -> Result<(), AllocError>
+    requires { program.0 < length (core.plant_of resource.now).instances }
+    ensures { (h : History) → core.Agrees resource.now h → OnOk result (out.new.items ≡ out.old.items
+        ++ rules.ended_line (has faulted program.0) (core.plant_of resource.now)
+        (plant_state.state_of (core.plant_of resource.now) h).instance_state program.0) }
+{
+    if !faulted.contains(program) {
+        return Ok(());
+    }
+    append_faulted(out, &resource.program(program))
+}
+
+// A line for each program whose scan ended with a fault.
+fn append_each_ended(
+    out: &mut Vec<u8>,
+    resource: &Resource,
+    faulted: InstanceSet,
+) -> Result<(), AllocError>
+    ensures { (h : History) → core.Agrees resource.now h → OnOk result (out.new.items ≡ out.old.items
+        ++ rules.ended_lines (core.plant_of resource.now) (plant_state.state_of (core.plant_of resource.now) h).instance_state faulted
+        (length (core.plant_of resource.now).instances)) }
+{
+    for k in 0..resource.plant().instances().len() {
+        append_ended(out, resource, ProgId(k as u8), faulted)?;
+    }
+    Ok(())
+}
+
+// The same by an answer.
+fn append_all_ended(
+    out: &mut Vec<u8>,
+    resource: &Resource,
+    answer: Answer,
+) -> Result<(), AllocError>
+    ensures { (h : History) → core.Agrees resource.now h → OnOk result (out.new.items ≡ out.old.items
+        ++ rules.ended_text (core.plant_of resource.now) (plant_state.state_of (core.plant_of resource.now) h).instance_state answer) }
+{
+    match answer {
+        Answer::Scanned { faulted, .. } => append_each_ended(out, resource, faulted),
+        _ => Ok(()),
+    }
+}
+
+// The lines of a scan, and where its faults are.
+fn append_level(
+    alloc: Global,
+    out: &mut Vec<u8>,
+    debugger: &Debugger,
+    row: TraceRow,
+) -> Result<(), AllocError>
+    ensures { (h : CommandHistory) → Agrees debugger.now h → OnOk result (out.new.items ≡ out.old.items
+        ++ rules.level_text (steered_by debugger.now) ((output.debugger_of (steered_by debugger.now)).state h) row) }
+{
+    append_whole(alloc, out, debugger, row)?;
+    append_all_ended(out, debugger.resource(), row.answer)
 }
 
 // A scan that is an alarm.
@@ -167,10 +236,10 @@ fn append_scan(
         ((output.debugger_of (steered_by (debugger_in follower.now))).state h) row) }
 {
     if follower.is_level() {
-        append_whole(alloc, out, follower.debugger(), row)
+        append_level(alloc, out, follower.debugger(), row)
     } else {
         append_row(out, follower.debugger(), row)?;
-        append_faulted(out, follower.debugger().resource().plant(), row.answer)
+        append_all_faults(out, follower.debugger().resource().plant(), row.answer)
     }
 }
 
@@ -234,7 +303,7 @@ impl Alarms {
 
     /// Takes the next row of the feed, and puts at the end what is told of it. A scan of a program that a fault ended, and one that hit a
     /// breakpoint, is told with all its lines, as a replay writes them: which program it is, the kind of the fault, and where the others
-    /// stand. Overruns are told by the line of the scan, at most once a second for each task. Before all of this it is told how many rows
+    /// stand; below them it is told where each fault is, as `append_faulted` says it. Overruns are told by the line of the scan, at most once a second for each task. Before all of this it is told how many rows
     /// were lost, if some were, at most once a second but for such a scan and END; from then on, how programs stand isn't known, and the
     /// line of the scan is told, with the names of the programs that ended with a fault.
     ///
@@ -243,6 +312,7 @@ impl Alarms {
     /// The one error is that memory was refused.
     pub fn take(&mut self, alloc: Global, told: &mut Told, row: TraceRow) -> Result<(), AllocError>
         ensures steered { steered_in self.new.follower ≡ steered_in self.old.follower }
+        ensures before { steered_by (before_in self.new.screen) ≡ steered_by (before_in self.old.screen) }
         ensures told { (h : CommandHistory) → Agrees (debugger_in self.old.follower) h →
             OnOk result ((behind : CommandHistory) × (text : List ℕ) × (shown : List ℕ) × (recorded : List ℕ)
             × (told.new.alarms.items ≡ told.old.alarms.items ++ text) × (told.new.changes.items ≡ told.old.changes.items ++ shown)

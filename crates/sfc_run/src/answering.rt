@@ -2,6 +2,7 @@
 
 use crate::alarms::Alarms;
 use crate::asks::Asks;
+use crate::follower::Follower;
 use crate::sfc_debug::debugger::Debugger;
 use crate::sfc_script::number::magnitude;
 use crate::sfc_script::split::{first_word, without_cr};
@@ -57,12 +58,19 @@ fn newest(alloc: Global, debugger: &Debugger, most: u64) -> Result<Vec<TraceRow>
 }
 
 // How all stands.
-fn show(out: &mut Vec<u8>, debugger: &Debugger) -> Result<(), AllocError> {
-    let instant = match debugger.trace(0) {
-        Some(row) => row.raw,
-        None => 0,
-    };
-    append_show(out, debugger, instant, &[])
+fn show(out: &mut Vec<u8>, follower: &Follower) -> Result<(), AllocError> {
+    append_show(out, follower.debugger(), follower.raw(), &[])
+}
+
+// The breakpoints that are set, where none of the commands that set and took them was lost.
+fn points(alloc: Global, out: &mut Vec<u8>, alarms: &Alarms) -> Result<(), AllocError> {
+    match alarms.points.rows() {
+        Some(rows) => append_points(alloc, out, alarms.follower.debugger(), rows),
+        None => append_note(
+            out,
+            b"lines of the feed were lost, so it isn't known which breakpoints are set",
+        ),
+    }
 }
 
 // The newest commands.
@@ -112,7 +120,7 @@ fn append_answer(
     let resource = debugger.resource();
     let (first, rest) = parted(text);
     if is_same_word(word, b"SHOW") {
-        return show(out, debugger);
+        return show(out, &alarms.follower);
     }
     if is_same_word(word, b"IMAGE") {
         return append_image(out, resource, first);
@@ -121,7 +129,7 @@ fn append_answer(
         return append_why(alloc, out, resource, first, parted(rest).0);
     }
     if is_same_word(word, b"POINTS") {
-        return append_points(alloc, out, debugger, alarms.points.rows());
+        return points(alloc, out, alarms);
     }
     if is_same_word(word, b"TRACE") {
         return trace(alloc, out, debugger, text);

@@ -4,10 +4,12 @@ ghost use Rattle.std.specs.Prelude.{◌≡◌, ◌-◌, ◌+◌, ◌∷◌, true
 ghost use Rattle.std.specs.Bool.{OnTrue, OnFalse};
 ghost use Rattle.sfc_control.specs.sfc_debug.Agreement.{Agrees};
 ghost use Rattle.sfc_control.specs.sfc_debug.Histories.{CommandHistory};
+ghost use Rattle.sfc_control.specs.sfc_debug.Openings.{IsOpeningFor};
 ghost use Rattle.sfc_control.specs.sfc_debug.Steered.{steered_by};
-ghost use Rattle.sfc_run.specs.Following.{AnswersSo, command_of};
+ghost use Rattle.sfc_run.specs.Following.{AnswersSo, HasPast, command_of};
 
 use crate::sfc_debug::debugger::Debugger;
+use crate::sfc_debug::opening::DebugOpening;
 use crate::sfc_debug::timed::Timed;
 use sfc_events::command::TraceRow;
 
@@ -16,6 +18,8 @@ use sfc_events::command::TraceRow;
 pub struct Follower {
     debugger: Debugger,
     newest: u64,
+    // The raw instant of the newest row, in microseconds.
+    raw: i64,
     is_level: bool,
 }
 
@@ -25,6 +29,7 @@ impl Drop for Follower {
         let Follower {
             debugger: _,
             newest: _,
+            raw: _,
             is_level: _,
         } = self;
     }
@@ -48,6 +53,15 @@ fn answers_so(debugger: &mut Debugger, row: TraceRow) -> bool
     }
 }
 
+/// A debugger goes on from an opening.
+pub fn go_on_from(debugger: &mut Debugger, opening: &DebugOpening)
+    requires { IsOpeningFor (steered_by debugger.old).plant opening.now }
+    ensures steered { steered_by debugger.new ≡ steered_by debugger.old }
+    ensures agrees { (h : CommandHistory) → HasPast (steered_by debugger.old) opening.now h → Agrees debugger.new h }
+{
+    debugger.restore(opening);
+}
+
 #[tactic(auto, unfolding(crate::specs::Following::debugger_in, crate::specs::Following::newest_in, crate::specs::Following::is_level))]
 impl Follower {
     ghost use Rattle.sfc_run.specs.Following.{Follows, debugger_in, newest_in, is_level, steered_in};
@@ -61,12 +75,13 @@ impl Follower {
         Follower {
             debugger,
             newest: 0,
+            raw: 0,
             is_level: true,
         }
     }
 
     /// Takes the next row of the feed; how many were lost between it and the one before. As long as none is, the debugger stands as the
-    /// run's own does behind the row; behind a lost row it is told nothing any more.
+    /// run's own does behind the row; behind a lost row it is told nothing, until it goes on from an opening.
     pub fn follow(&mut self, row: TraceRow) -> u64
         ensures lost { result ≡ row.number - (newest_in self.old + 1) }
         ensures steered { steered_in self.new ≡ steered_in self.old }
@@ -75,12 +90,37 @@ impl Follower {
     {
         let before = self.newest;
         self.newest = row.number;
+        self.raw = row.raw;
         if self.is_level && before < row.number && row.number - before == 1 {
             self.is_level = answers_so(&mut self.debugger, row);
         } else {
             self.is_level = false;
         }
         row.number.saturating_sub(before).saturating_sub(1)
+    }
+
+    /// It goes on from an opening, and is level then: the run is to have saved it behind the newest row.
+    pub fn resume(&mut self, opening: &DebugOpening)
+        requires { IsOpeningFor (steered_in self.old).plant opening.now }
+        ensures newest { newest_in self.new ≡ newest_in self.old }
+        ensures steered { steered_in self.new ≡ steered_in self.old }
+        ensures level { is_level self.new ≡ true }
+        ensures agrees { (h : CommandHistory) → HasPast (steered_in self.old) opening.now h → Agrees (debugger_in self.new) h }
+    {
+        go_on_from(&mut self.debugger, opening);
+        self.is_level = true;
+    }
+
+    /// The number of the newest row; 0 before the first.
+    pub fn newest(&self) -> u64
+        ensures { result ≡ newest_in self.now }
+    {
+        self.newest
+    }
+
+    /// The raw instant of the newest row, in microseconds; 0 before the first.
+    pub fn raw(&self) -> i64 {
+        self.raw
     }
 
     /// The debugger.
@@ -90,7 +130,8 @@ impl Follower {
         &self.debugger
     }
 
-    /// Whether no row was lost, and each command was answered as the run answered it.
+    /// Whether the debugger stands as the run's own does behind the newest row: no row was lost, and each command was answered as the run
+    /// answered it, since the first one, or since it went on from an opening.
     pub fn is_level(&self) -> bool
         ensures { result ≡ is_level self.now }
     {

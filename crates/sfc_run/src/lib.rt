@@ -10,11 +10,12 @@
 //! - `keeper`: the epochs of a run itself, which keep its history short.
 //! - `laws`: what holds of what was recorded.
 //! - `pace`: the gate of a worker that scans as long as it may.
-//! - `points`: commands that set and take breakpoints.
+//! - `points`: the commands whose breakpoints are set.
 //! - `printing`: the lines of the feed; `watch`: what is read of it; `teller`: where alarms go.
 //! - `screen`: what is shown where it changes; `picked`: what that is, by names.
 //! - `real_time`: the clock of a run.
 //! - `recording`: its accepted commands as a script.
+//! - `resumption`: where the debugger that follows goes on behind lost rows.
 //! - `run`: a chart from its bytes to the audit; `run_opening`: what it is opened with; `run_threads`: its threads.
 //! - `run_faults`: what went wrong in a run, with its exit status.
 //! - `session`: lines that are obeyed as they come; `streams`: where a run reads and writes.
@@ -39,6 +40,7 @@ pub mod points;
 pub mod printing;
 pub mod real_time;
 pub mod recording;
+pub mod resumption;
 pub mod run;
 pub mod run_faults;
 mod run_opening;

@@ -1,7 +1,10 @@
-//! When lost rows are told.
+//! When lost rows are told, and that what they left is known again.
 
-ghost use Rattle.std.specs.Prelude.{◌≡◌};
+ghost use Rattle.std.specs.Prelude.{◌≡◌, ◌++◌, OnOk};
 ghost use Rattle.sfc_run.specs.Losses as rules;
+
+use sfc_page::append::{append, append_number};
+use std::alloc::AllocError;
 
 /// How long lost rows aren't told again, in microseconds.
 const PAUSE: i64 = 1_000_000;
@@ -15,6 +18,16 @@ pub struct Losses {
     pub t: i64,
 }
 
+/// Puts at the end that it is known again how all stands, behind so many commands: a line. The one error is that memory was refused; then a
+/// front of it may stand there.
+pub fn append_known(out: &mut Vec<u8>, count: u64) -> Result<(), AllocError>
+    ensures { OnOk result (out.new.items ≡ out.old.items ++ rules.known_text count) }
+{
+    append(out, b"known again behind ")?;
+    append_number(out, count)?;
+    append(out, b" commands\n")
+}
+
 impl Losses {
     /// None were lost yet, so that the first are told at any instant.
     pub fn none() -> Losses
@@ -24,6 +37,13 @@ impl Losses {
             waiting: 0,
             t: -PAUSE,
         }
+    }
+
+    /// All are told.
+    pub fn clear(&mut self)
+        ensures { self.new ≡ rules.none_waiting self.old }
+    {
+        self.waiting = 0;
     }
 
     /// So many more were lost before a row of this run instant: how many are told with it. They are told where some wait, and either the

@@ -1,35 +1,41 @@
-//! The commands of a run that set and take breakpoints.
+//! The commands of a run whose breakpoints are set.
 
-use sfc_events::command::{Command, TraceRow};
+use sfc_asking::points::follow;
+use sfc_events::command::TraceRow;
 use std::alloc::{AllocError, Global};
 
-/// The rows of all commands that set or took breakpoints, in order.
+/// The rows of the commands that set the breakpoints which are set, in order.
 #[derive(Drop)]
 pub struct Points {
     rows: Vec<TraceRow>,
+    is_whole: bool,
 }
 
 impl Points {
-    /// There was none.
+    /// None is set.
     pub fn none(alloc: Global) -> Points {
         Points {
             rows: Vec::new(alloc),
+            is_whole: true,
         }
     }
 
     /// Takes the next row of the feed. The one error is that memory was refused.
     pub fn note(&mut self, row: TraceRow) -> Result<(), AllocError> {
-        if let Command::Break(_, _)
-        | Command::BreakIf(_, _, _)
-        | Command::Unbreak(_, _) = row.command
-        {
-            self.rows.push(row)?;
-        }
-        Ok(())
+        follow(&mut self.rows, &row)
     }
 
-    /// The rows.
-    pub fn rows(&self) -> &[TraceRow] {
-        &self.rows
+    /// Rows of the feed were lost, of which some may be of such commands.
+    pub fn lose(&mut self) {
+        self.is_whole = false;
+    }
+
+    /// The rows, where none was lost.
+    pub fn rows(&self) -> Option<&[TraceRow]> {
+        if self.is_whole {
+            Some(&self.rows)
+        } else {
+            None
+        }
     }
 }

@@ -3,7 +3,7 @@
 ghost use Rattle.std.specs.Prelude.{◌≡◌, ◌++◌, [], false, IfOk, IsSome, OnOk};
 ghost use mathlib.Core.List.{IsPrefix};
 ghost use Rattle.sfc_control.specs.Tails.{taken, coming};
-ghost use Rattle.sfc_run.specs.Printing.{Prints, Reaches};
+ghost use Rattle.sfc_run.specs.Printing.{FollowsRun, GoesOn, Prints, Reaches, steered_of};
 ghost use Rattle.sfc_run.specs.declared.printing.PrintFault.TheVariants.{Write as WriteVariant, Memory};
 
 use crate::alarms::Told;
@@ -15,7 +15,8 @@ use crate::recording::Recorder;
 use crate::teller::Teller;
 use crate::watch::{Look, Texts, Watch};
 use sfc_base::write_fault::{WriteFault, put_all};
-use sfc_control::bells::Bells;
+use sfc_control::controller::Controller;
+use sfc_control::opened_with::OpenedWith;
 use std::alloc::{AllocError, Global};
 use std::io::Write;
 use std::sync::Wait;
@@ -63,11 +64,11 @@ pub struct Printing<W: Write, T: Write, F: Write> {
     pub recorder: Recorder<F, T>,
 }
 
-/// What waits beside the rows of a feed.
-#[derive(Clone, Copy)]
-pub struct Beside<'a> {
-    /// What wakes who takes rows.
-    pub bells: &'a Bells,
+/// What is beside the rows of a feed.
+#[derive(Drop)]
+pub struct Beside<'a, L: OpenedWith> {
+    /// What the feed tells of, and what wakes who takes its rows.
+    pub controller: &'a Controller<L>,
     /// Lines that ask how all stands.
     pub asks: &'a Asks,
 }
@@ -78,6 +79,9 @@ fn print_some<W: Write, T: Write, F: Write>(
     printing: &mut Printing<W, T, F>,
     ended: Option<RowsEnded>,
 ) -> Result<Look, PrintFault>
+    requires { GoesOn printing.old.watch }
+    ensures ready { GoesOn printing.new.watch }
+    ensures steered { steered_of printing.new.watch ≡ steered_of printing.old.watch }
     ensures lines { Prints W.contents T.contents F.contents printing.old printing.new result }
     ensures known { OnOk result (Reaches printing.old.watch.tail printing.new.watch.tail) }
     ensures rest { IfOk result (λ found. found.some ≡ false → coming printing.new.watch.tail ≡ []) }
@@ -104,32 +108,39 @@ fn print_some<W: Write, T: Write, F: Write>(
 /// Takes rows as they come and writes the line of each whose command is wanted: its number, and the line of its command. Beside it alarms
 /// are told, and behind the lines it is shown what has changed; before all of that commands are recorded, where they are. It ends once it is
 /// told that no more rows come, and none is left; a look that was begun behind that word is what it answers. Where none has come it waits
-/// until its bell is rung, a tenth of a second at most. Lines that ask are answered behind the rows of a round.
+/// until its bell is rung, a tenth of a second at most. Lines that ask are answered behind the rows of a round. Where rows were lost, and none
+/// has come, the run is saved under its lock; behind the row of the newest command that stands behind that all goes on from there.
 ///
 /// `Write` is answered where the writer failed or took no byte, `Memory` where memory was refused; then a front of the lines was
 /// written, and no more rows are taken. Faults of the writers of alarms and of what is shown are passed over; that of a record is told, and
 /// then nothing more is recorded.
-pub fn print_rows<R: Wait, W: Write, T: Write, F: Write>(
+pub fn print_rows<L: OpenedWith, R: Wait, W: Write, T: Write, F: Write>(
     rt: &R,
     alloc: Global,
     printing: &mut Printing<W, T, F>,
-    beside: Beside<'_>,
+    beside: &Beside<'_, L>,
 ) -> Result<Drained, PrintFault>
+    requires { FollowsRun L.plant L.table printing.old.watch }
+    ensures follows { FollowsRun L.plant L.table printing.new.watch }
     ensures lines { Prints W.contents T.contents F.contents printing.old printing.new result }
     ensures known { OnOk result (IsPrefix (taken printing.old.watch.tail ++ coming printing.old.watch.tail)
         (taken printing.new.watch.tail)) }
     ensures rest { OnOk result (coming printing.new.watch.tail ≡ []) }
 {
     'rounds: for _ in rt.forever() {
-        let ended = RowsEnded::of(beside.bells);
+        let ended = RowsEnded::of(beside.controller.bells());
         let some = print_some(alloc, printing, ended)?;
         let answers = answers_to(rt, alloc, &printing.watch.alarms, beside.asks);
         printing.answers.tell(&answers);
         if let Some(drained) = some.drained {
             return Ok(drained);
         }
-        if !some.some {
-            beside.bells.wait_for_rows(rt, Duration::from_millis(LONG));
+        let goes_on = some.some || printing.watch.alarms.follower.is_level();
+        let resumption = &mut printing.watch.resumption;
+        let is_saved = resumption.catch_up(rt, beside.controller, goes_on);
+        if !some.some && !is_saved {
+            let bells = beside.controller.bells();
+            bells.wait_for_rows(rt, Duration::from_millis(LONG));
         }
     }
     unreachable!()

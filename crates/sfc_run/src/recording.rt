@@ -76,6 +76,15 @@ fn line_of(alloc: Global, debugger: &Debugger, row: TraceRow) -> Result<Vec<u8>,
 }
 
 impl Recording {
+    /// Nothing more is recorded, since rows of the feed were lost.
+    pub fn lose(&mut self)
+        ensures { self.new ≡ rules.lost_after self.old }
+    {
+        if *self == Recording::On {
+            *self = Recording::Lost;
+        }
+    }
+
     /// Puts at the end what is recorded of the next row, which the follower has taken: where each was so far, and the follower is level, the
     /// line of its command as a script has it, with its raw instant. It is put where the reader of scripts reads it as that command, so that a
     /// record never says what wasn't accepted; and nothing is recorded behind one that isn't put.

@@ -3,7 +3,10 @@
 ghost use Rattle.std.specs.Prelude.{◌≡◌, ◌<◌, ◌≤◌, ◌+◌, [], IfSome, length};
 ghost use Rattle.sfc_plant.specs.Plants.{PlantData};
 ghost use Rattle.sfc_control.specs.sfc_debug.Agreement.{Agrees, plant_of, table_of, mask_of};
+ghost use Rattle.sfc_control.specs.sfc_debug.Openings.{IsOpeningFor};
+ghost use Rattle.sfc_control.specs.sfc_debug.Steered.{steered_by};
 ghost use Rattle.sfc_run.specs.Following.{debugger_in};
+ghost use Rattle.sfc_run.specs.Printing.{GoesOn};
 ghost use Rattle.sfc_run.specs.Running.{IsRunStatus};
 ghost use Rattle.sfc_run.specs.Screens.{before_in};
 
@@ -20,12 +23,14 @@ use crate::points::Points;
 use crate::printing::{PrintFault, Printing};
 use crate::real_time::RealTime;
 use crate::recording::Recorder;
+use crate::resumption::Resumption;
 use crate::run_faults::RunFaults;
 use crate::run_opening::{RunDebuggers, open_run, posts_of};
 use crate::run_threads::{Left, Seated, run_threads};
 use crate::screen::{Screen, Shows};
 use crate::session::Desk;
 use crate::sfc_debug::debugger::Debugger;
+use crate::sfc_debug::opening::DebugOpening;
 use crate::stopwatch::{Stopwatch, append_longest, stopwatches};
 use crate::streams::{Asked, Streams};
 use crate::teller::Teller;
@@ -124,13 +129,17 @@ struct Ready<W: Write, T: Write, F: Write> {
     timing: Timing,
 }
 
-// What the thread that prints begins with: two debuggers, of which the second one follows a row behind.
+// What the thread that prints begins with: two debuggers, of which the second one follows a row behind, and an opening for them.
 fn printing_of<W: Write, T: Write, F: Write>(
     alloc: Global,
     tail: Tail,
     followers: (Debugger, Debugger),
+    opening: DebugOpening,
     ready: Ready<W, T, F>,
 ) -> Printing<W, T, F>
+    requires sizes { IsOpeningFor (steered_by followers.0).plant opening }
+    requires alike { steered_by followers.1 ≡ steered_by followers.0 }
+    ensures goes_on { GoesOn result.watch }
     ensures tail { result.watch.tail ≡ tail }
     ensures follower { debugger_in result.watch.alarms.follower ≡ followers.0 }
     ensures before { before_in result.watch.alarms.screen ≡ followers.1 }
@@ -173,6 +182,7 @@ fn printing_of<W: Write, T: Write, F: Write>(
             tail,
             wanted,
             alarms,
+            resumption: Resumption::new(opening),
         },
         w,
         teller: Teller::new(tells),
@@ -228,6 +238,8 @@ fn run_with<
     requires mask { mask_of opened.debugger ≡ L.mask }
     requires limit { ready.asked.history ≡ L.limit }
     requires untold { Agrees opened.debugger [] }
+    requires same { steered_by opened.follower ≡ steered_by opened.debugger }
+    requires alike { steered_by opened.before ≡ steered_by opened.follower }
 {
     let RunDebuggers {
         debugger,
@@ -256,7 +268,8 @@ fn run_with<
     let posts = posts_of(alloc, seats, &clock, controller.bells(), &watches)?;
     let mut console = Console::new(alloc, seat, clock);
     let timed = ready.asked.timing;
-    let printing = printing_of(alloc, tail, (follower, before), ready);
+    let opening = DebugOpening::new(alloc, &follower)?;
+    let printing = printing_of(alloc, tail, (follower, before), opening, ready);
     let asks = Asks::new(alloc)?;
     let left = {
         let desk = Desk {

@@ -48,6 +48,7 @@ fn all_of_text(alloc: Global, text: &[u8]) -> Result<RunDebuggers, ReplayError>
     ensures follows { IfOk result (λ opened. Agrees opened.follower []) }
     ensures before { IfOk result (λ opened. Agrees opened.before []) }
     ensures alike { IfOk result (λ opened. steered_by opened.before ≡ steered_by opened.follower) }
+    ensures same { IfOk result (λ opened. steered_by opened.follower ≡ steered_by opened.debugger) }
     ensures table { IfOk result (λ opened. table_of opened.debugger ≡ []) }
     ensures mask { IfOk result (λ opened. mask_of opened.debugger ≡ every_kind) }
 {
@@ -71,6 +72,7 @@ pub fn open_run<C: Read>(alloc: Global, chart: &mut C) -> Result<RunDebuggers, R
     ensures follows { IfOk result (λ opened. Agrees opened.follower []) }
     ensures before { IfOk result (λ opened. Agrees opened.before []) }
     ensures alike { IfOk result (λ opened. steered_by opened.before ≡ steered_by opened.follower) }
+    ensures same { IfOk result (λ opened. steered_by opened.follower ≡ steered_by opened.debugger) }
     ensures table { IfOk result (λ opened. table_of opened.debugger ≡ []) }
     ensures mask { IfOk result (λ opened. mask_of opened.debugger ≡ every_kind) }
     ensures loads { IfOk result (λ opened. OpensFrom (C.remaining chart.old, C.remaining chart.new) opened) }

@@ -2,6 +2,7 @@
 
 ghost use Rattle.std.specs.Prelude.{◌≡◌, IfOk, IfSome, length};
 ghost use Rattle.std.specs.Thread.{IsSync};
+ghost use Rattle.sfc_run.specs.Printing.{FollowsRun};
 
 use crate::console::Console;
 use crate::keeper::{Keeper, Over};
@@ -209,19 +210,21 @@ struct Writers<W: Write, T: Write, F: Write> {
 
 // What the thread that prints stands on.
 #[derive(Drop)]
-struct Board<'b, R: Wait> {
+struct Board<'b, L: OpenedWith, R: Wait> {
     rt: &'b R,
     alloc: Global,
-    beside: Beside<'b>,
+    beside: Beside<'b, L>,
 }
 
 // What printing comes to. Behind a fault of the writer of lines alarms are told all the same: no command has a line then.
-fn print_all<R: Wait, W: Write, T: Write, F: Write>(
+fn print_all<L: OpenedWith, R: Wait, W: Write, T: Write, F: Write>(
     rt: &R,
     alloc: Global,
     printing: &mut Printing<W, T, F>,
-    beside: Beside<'_>,
-) -> RunFaults {
+    beside: &Beside<'_, L>,
+) -> RunFaults
+    requires { FollowsRun L.plant L.table printing.old.watch }
+{
     let faults = match print_rows(rt, alloc, printing, beside) {
         Ok(_) => return RunFaults::none(),
         Err(PrintFault::Memory) => return RunFaults::of_memory(),
@@ -250,13 +253,15 @@ fn tell_timing<W: Write, T: Write, F: Write>(
 }
 
 // What printing comes to: the writer of lines is handed back.
-fn printed<R: Wait, W: Write + Drop, T: Write + Drop, F: Write + Drop>(
+fn printed<L: OpenedWith, R: Wait, W: Write + Drop, T: Write + Drop, F: Write + Drop>(
     rt: &R,
     alloc: Global,
-    beside: Beside<'_>,
+    beside: Beside<'_, L>,
     held: Option<Watch>,
     writers: Writers<W, T, F>,
-) -> (W, RunFaults) {
+) -> (W, RunFaults)
+    requires { IfSome held (λ watch. FollowsRun L.plant L.table watch) }
+{
     let Writers {
         w,
         teller,
@@ -275,7 +280,7 @@ fn printed<R: Wait, W: Write + Drop, T: Write + Drop, F: Write + Drop>(
         answers,
         recorder,
     };
-    let faults = print_all(rt, alloc, &mut printing, beside);
+    let faults = print_all(rt, alloc, &mut printing, &beside);
     let faults = faults.with(tell_timing(alloc, &mut printing));
     let Printing {
         watch: _,
@@ -299,6 +304,7 @@ fn printed<R: Wait, W: Write + Drop, T: Write + Drop, F: Write + Drop>(
 // the debugger that follows, of which that is a lemma.
 fn print_beside<
     'b,
+    L: OpenedWith + Send + Sync,
     R: Threads + Wait + Sync,
     W: Write + Send + Drop,
     T: Write + Send + Drop,
@@ -306,35 +312,34 @@ fn print_beside<
     D,
     J: FnOnce() -> D + Drop,
 >(
-    board: Board<'b, R>,
+    board: Board<'b, L, R>,
     held: Option<Watch>,
     writers: Writers<W, T, F>,
     job: J,
 ) -> Option<(D, W, RunFaults)>
-    requires { J.pre job }
+    requires job { J.pre job }
+    requires held { IfSome held (λ watch. FollowsRun L.plant L.table watch) }
     ensures { IfSome result (λ done. J.post job done.0) }
 {
     let Board { rt, alloc, beside } = board;
-    let Beside { bells, asks } = beside;
+    let Beside { controller, asks } = beside;
     thread::scope(
         thread::scope_env(),
         rt,
         |scope| -> Option<(D, W, RunFaults)>
             requires sync { IsSync R.row }
             requires job { J.pre job }
+            requires held { IfSome held (λ watch. FollowsRun L.plant L.table watch) }
             ensures { IfSome result (λ done. J.post job done.0) }
         {
-            let Ok(child) = scope.spawn(move || printed(
-                rt,
-                alloc,
-                Beside { bells, asks },
-                held,
-                writers,
-            )) else {
+            let printing = move || -> (W, RunFaults)
+                requires { IfSome held (λ watch. FollowsRun L.plant L.table watch) }
+            { printed(rt, alloc, Beside { controller, asks }, held, writers) };
+            let Ok(child) = scope.spawn(printing) else {
                 return None;
             };
             let done = job();
-            bells.end_rows();
+            controller.bells().end_rows();
             let (w, faults) = child.join(rt);
             Some((done, w, faults))
         },
@@ -361,6 +366,7 @@ pub fn run_threads<
     printing: Printing<W, T, F>,
     streams: &mut Streams<'_, S, E>,
 ) -> Left<L, C, W>
+    requires { FollowsRun L.plant L.table printing.watch }
     ensures { IfSome result.ends (λ ends. length ends.items ≡ length posts.entry.items) }
 {
     let Seated { console, keeper } = seated;
@@ -387,7 +393,7 @@ pub fn run_threads<
         rt: desk.rt,
         alloc: desk.alloc,
         beside: Beside {
-            bells: desk.controller.bells(),
+            controller: desk.controller,
             asks: desk.asks,
         },
     };

@@ -4,16 +4,20 @@ ghost use Rattle.std.specs.Prelude.{◌≡◌, ◌++◌, ◌∷◌, ◌||◌, Li
 ghost use Rattle.std.specs.Bool.{OnTrue};
 ghost use Rattle.sfc_control.specs.sfc_debug.Agreement.{Agrees};
 ghost use Rattle.sfc_control.specs.sfc_debug.Histories.{CommandHistory};
+ghost use Rattle.sfc_control.specs.sfc_debug.Openings.{IsOpeningFor};
 ghost use Rattle.sfc_control.specs.sfc_debug.Steered.{steered_by};
 ghost use Rattle.sfc_replay.specs.sfc_output.Output as output;
-ghost use Rattle.sfc_run.specs.Following.{AnswersSo, command_of, debugger_in, is_level, steered_in};
+ghost use Rattle.sfc_run.specs.Following.{AnswersSo, HasPast, command_of, debugger_in, is_level, newest_in, steered_in};
 ghost use Rattle.sfc_run.specs.Screens as rules;
 
-use crate::follower::Follower;
+use crate::follower::{Follower, go_on_from};
+use crate::losses::append_known;
 use crate::sfc_debug::debugger::Debugger;
+use crate::sfc_debug::opening::DebugOpening;
 use crate::sfc_debug::timed::Timed;
 use crate::sfc_output::command::append_row;
 use sfc_events::command::{Answer, Command, TraceRow};
+use sfc_events::instance_set::InstanceSet;
 use sfc_page::append::append;
 use sfc_panel::panel::{Panel, Passed};
 use std::alloc::{AllocError, Global};
@@ -117,6 +121,58 @@ fn append_changed(
     panel.append_changes(alloc, out, passed, answer)
 }
 
+// An answer by which each program is shown that stands otherwise than before.
+fn of_each() -> Answer
+    ensures { result ≡ rules.of_each }
+{
+    Answer::Scanned {
+        ran: InstanceSet { bits: u64::MAX },
+        faulted: InstanceSet::none(),
+        skipped: InstanceSet::none(),
+        overruns: 0,
+        hit: false,
+    }
+}
+
+// What has changed between two debuggers, below the line that tells behind how many commands it is known again.
+fn append_again(
+    alloc: Global,
+    out: &mut Vec<u8>,
+    panel: &Panel,
+    between: (&Debugger, &Debugger),
+    count: u64,
+) -> Result<(), AllocError>
+    ensures adds { OnOk result ((some : List ℕ) × (out.new.items ≡ out.old.items ++ some)) }
+    ensures shown { (h behind : CommandHistory) → steered_by between.entry.1.now ≡ steered_by between.entry.0.now → Agrees between.entry.0.now h →
+        Agrees between.entry.1.now behind → OnOk result (out.new.items ≡ out.old.items
+        ++ rules.again_text panel.now (steered_by between.entry.1.now) count h behind) }
+{
+    let mut shown = Vec::new(alloc);
+    append_changed(alloc, &mut shown, panel, between, &of_each())?;
+    append_known(out, count)?;
+    append(out, &shown)
+}
+
+// The same, where changes are shown.
+fn append_if(
+    alloc: Global,
+    out: &mut Vec<u8>,
+    shows: &Shows,
+    between: (&Debugger, &Debugger),
+    count: u64,
+) -> Result<(), AllocError>
+    ensures adds { OnOk result ((some : List ℕ) × (out.new.items ≡ out.old.items ++ some)) }
+    ensures shown { (h behind : CommandHistory) → steered_by between.entry.1.now ≡ steered_by between.entry.0.now → Agrees between.entry.0.now h →
+        Agrees between.entry.1.now behind → OnOk result (out.new.items ≡ out.old.items
+        ++ rules.again_if shows.now (steered_by between.entry.1.now) count h behind) }
+{
+    let is_on = shows.is_on;
+    if !is_on {
+        return Ok(());
+    }
+    append_again(alloc, out, &shows.panel, between, count)
+}
+
 #[tactic(auto, unfolding(crate::specs::Screens::before_in))]
 impl Screen {
     ghost use Rattle.sfc_run.specs.Screens.{Sees, before_in};
@@ -173,6 +229,33 @@ impl Screen {
         if sees {
             self.pass(row);
         }
+        Ok(())
+    }
+
+    /// Puts at the end what is shown where a follower has gone on from an opening: where changes are shown, the line that it is known again
+    /// how all stands, and below it what stands otherwise than when it was known last. The debugger goes on from the opening too.
+    ///
+    /// The one error is that memory was refused; then a front of it may stand there.
+    pub fn resume(
+        &mut self,
+        alloc: Global,
+        out: &mut Vec<u8>,
+        follower: &Follower,
+        opening: &DebugOpening,
+    ) -> Result<(), AllocError>
+        requires { IsOpeningFor (steered_by (before_in self.old)).plant opening.now }
+        ensures shows { self.new.shows ≡ self.old.shows }
+        ensures steered { steered_by (before_in self.new) ≡ steered_by (before_in self.old) }
+        ensures agrees { (h : CommandHistory) → HasPast (steered_by (before_in self.old)) opening.now h →
+            OnOk result (Agrees (before_in self.new) h) }
+        ensures adds { OnOk result ((some : List ℕ) × (out.new.items ≡ out.old.items ++ some)) }
+        ensures shown { (h behind : CommandHistory) → steered_by (before_in self.old) ≡ steered_in follower.now →
+            Agrees (before_in self.old) h → Agrees (debugger_in follower.now) behind → OnOk result (out.new.items ≡ out.old.items
+            ++ rules.again_if self.old.shows (steered_in follower.now) (newest_in follower.now) h behind) }
+    {
+        let between = (&self.before, follower.debugger());
+        append_if(alloc, out, &self.shows, between, follower.newest())?;
+        go_on_from(&mut self.before, opening);
         Ok(())
     }
 }

@@ -1,15 +1,13 @@
 //! What is read of a run.
 
-ghost use Rattle.std.specs.Prelude.{◌≡◌, ◌++◌, [], false, List, ℕ, IfOk, IsSome, OnOk};
+ghost use Rattle.std.specs.Prelude.{◌≡◌, ◌∷◌, ◌++◌, [], false, IfOk, IsSome, OnOk};
 ghost use Rattle.sfc_control.specs.Tails.{coming};
-ghost use Rattle.sfc_control.specs.sfc_debug.Agreement.{Agrees};
-ghost use Rattle.sfc_control.specs.sfc_debug.Histories.{CommandHistory};
-ghost use Rattle.sfc_run.specs.Alarms.{IsTold};
-ghost use Rattle.sfc_run.specs.Following.{debugger_in};
-ghost use Rattle.sfc_run.specs.Printing.{Gathers, Reaches, line_if, steered_of};
+ghost use Rattle.sfc_run.specs.Alarms.{Hears};
+ghost use Rattle.sfc_run.specs.Printing.{Gathers, GoesOn, Reaches, line_if, steered_of};
 
 use crate::alarms::{Alarms, Told};
 use crate::draining::{Drained, Found, RowsEnded, look};
+use crate::resumption::Resumption;
 use crate::sfc_debug::trace_mask::TraceMask;
 use crate::sfc_output::command::append_row;
 use sfc_control::tail::Tail;
@@ -28,6 +26,8 @@ pub struct Watch {
     pub wanted: TraceMask,
     /// What stands behind the alarms.
     pub alarms: Alarms,
+    /// Where the debugger that follows goes on behind lost rows.
+    pub resumption: Resumption,
 }
 
 /// What rows come to.
@@ -60,41 +60,46 @@ impl Watch {
         }
     }
 
-    // Puts the line of a row, and what is told of it, at the end of each text.
+    // Puts the line of a row, and what is told of it, at the end of each text; and where the run was saved behind it, all goes on from there.
     fn append_both(
         &mut self,
         alloc: Global,
         texts: &mut Texts,
         row: TraceRow,
     ) -> Result<(), AllocError>
+        requires { GoesOn self.old }
+        ensures ready { GoesOn self.new }
         ensures tail { self.new.tail ≡ self.old.tail }
         ensures wanted { self.new.wanted ≡ self.old.wanted }
         ensures line { OnOk result (texts.new.lines.items ≡ texts.old.lines.items ++ line_if self.old.wanted (steered_of self.old) row) }
         ensures steered { steered_of self.new ≡ steered_of self.old }
-        ensures told { (h : CommandHistory) → Agrees (debugger_in self.old.alarms.follower) h →
-            OnOk result ((behind : CommandHistory) × (text : List ℕ) × (shown : List ℕ) × (recorded : List ℕ)
-            × (texts.new.told.alarms.items ≡ texts.old.told.alarms.items ++ text)
-            × (texts.new.told.changes.items ≡ texts.old.told.changes.items ++ shown)
-            × (texts.new.told.record.items ≡ texts.old.told.record.items ++ recorded)
-            × IsTold self.old.alarms self.new.alarms row h behind text shown recorded) }
+        ensures hears { OnOk result (Hears self.old.alarms self.new.alarms (row ∷ []) texts.old.told texts.new.told) }
     {
         self.append_line(&mut texts.lines, row)?;
-        self.alarms.take(alloc, &mut texts.told, row)
+        self.alarms.take(alloc, &mut texts.told, row)?;
+        self.resumption
+            .resume(alloc, &mut texts.told, &mut self.alarms)
     }
 
     /// Takes rows that have come, 256 at most, and puts their lines and what is told of them at the end of the texts; whether there were
-    /// any, and whether all were taken that will ever come, where the word of that was known before. The error is that memory was refused.
+    /// any, and whether all were taken that will ever come, where the word of that was known before. Where the run was saved behind the newest
+    /// row, all goes on from there. The error is that memory was refused.
     pub fn append_rows(
         &mut self,
         alloc: Global,
         texts: &mut Texts,
         ended: Option<RowsEnded>,
     ) -> Result<Look, AllocError>
+        requires { GoesOn self.old }
+        ensures ready { GoesOn self.new }
+        ensures steered { steered_of self.new ≡ steered_of self.old }
         ensures rows { Gathers self.old self.new texts.old texts.new result }
         ensures known { OnOk result (Reaches self.old.tail self.new.tail) }
         ensures rest { IfOk result (λ found. found.some ≡ false → coming self.new.tail ≡ []) }
         ensures drained { IfOk result (λ found. IsSome found.drained → coming self.new.tail ≡ []) }
     {
+        self.resumption
+            .resume(alloc, &mut texts.told, &mut self.alarms)?;
         'rows: for count in 0..ROWS {
             match look(&mut self.tail, ended) {
                 Found::Row(row) => self.append_both(alloc, texts, row)?,

@@ -1,6 +1,7 @@
 //! What has changed behind the last commands of a case.
 
-ghost use Rattle.sfc_judge.specs.Running.Benches.{IsReady};
+ghost use Rattle.std.specs.Prelude.{◌≡◌};
+ghost use Rattle.sfc_judge.specs.Running.Benches.{IsReady, steered_in};
 
 use crate::operands::append_joint;
 use crate::sfc_debug::timed::Timed;
@@ -128,6 +129,7 @@ pub fn append_last_changes(
     commands: &[Timed],
 ) -> Result<(), AllocError>
     ensures ready { IsReady bench.old → IsReady bench.new }
+    ensures steered { steered_in bench.new ≡ steered_in bench.old }
 {
     let mut lines: Vec<Vec<u8>> = Vec::new(alloc);
     let mut before = how_it_stands(alloc, bench)?;

@@ -1,12 +1,12 @@
 //! What is told of a failure.
 
+use crate::opened::File;
 use crate::operands::{append_joint, append_none, append_operands};
 use crate::sfc_script::split::next_line;
 use sfc_base::ids::{ProgId, TaskId};
 use sfc_base::references::StepId;
 use sfc_cases::deed::Deed;
 use sfc_cases::line::Line;
-use sfc_cases::sources::Sources;
 use sfc_cases::watch::Watch;
 use sfc_cases::words::from_word;
 use sfc_events::refusal::Refusal;
@@ -17,10 +17,10 @@ use sfc_page::append::{append, append_number, append_time};
 use sfc_plant::names::{instance_name, task_name};
 use std::alloc::{AllocError, Global};
 
-/// Tests: their text, its lines that do something, and the bytes at which they begin.
+/// Tests: the file's name, their text and in which files its lines stand, its lines that do something, and the bytes at which they begin.
 #[derive(Clone, Copy)]
 pub struct Source<'a> {
-    pub sources: &'a Sources,
+    pub file: File<'a>,
     pub lines: &'a [Line],
     pub places: &'a [usize],
 }
@@ -31,7 +31,7 @@ fn text_of<'a>(source: Source<'a>, number: usize) -> &'a [u8] {
     let Some(place) = source.places.get(index) else {
         return b"";
     };
-    let text = source.sources.text();
+    let text = source.file.text;
     if *place > text.len() {
         return b"";
     }
@@ -88,7 +88,7 @@ fn stimulus_line<'a>(lines: &'a [Line], at: &Line, place: usize) -> Option<&'a L
 
 // A line with the file, the number and the text of a line, and at which of its bytes that begins, counted from 1.
 fn append_place(out: &mut Vec<u8>, source: Source<'_>, line: &Line) -> Result<(), AllocError> {
-    let (name, number) = source.sources.place(line.number);
+    let (name, number) = source.file.sources.place(line.number);
     let whole = text_of(source, line.number);
     let text = from_word(whole);
     let column = whole.len().saturating_sub(text.len()).saturating_add(1);
@@ -191,7 +191,7 @@ fn append_moment(
 ) -> Result<(), AllocError> {
     append_time(out, bench.clock())?;
     if let Complaint::Broken(_) | Complaint::Unstirred(_, _) = failure.complaint {
-        let (_, number) = source.sources.place(failure.line.number);
+        let (_, number) = source.file.sources.place(failure.line.number);
         append(out, b", line ")?;
         append_number(out, number as u64)?;
     }

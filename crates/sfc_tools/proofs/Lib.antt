@@ -6,3 +6,5 @@ pub mod Untold
 pub mod Texts
 -- answers to lines
 pub mod Answered
+-- the outcome of tests
+pub mod Outcome

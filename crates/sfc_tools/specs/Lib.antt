@@ -10,7 +10,9 @@ pub mod Plays
 pub mod Drawings
 -- what why prints
 pub mod Reports
--- what wave, cover and test print
+-- what wave and cover print
 pub mod Runs
+-- what test prints
+pub mod Outcomes
 -- what a prompt answers
 pub mod Answers

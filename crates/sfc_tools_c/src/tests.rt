@@ -1,8 +1,8 @@
 //! What is told of tests of a chart. Each call answers 0 where there is a text, which it gives; else -6 where the buffer is too short, or the code of
 //! `ToolError`. `needed` tells the length of the text in both cases; 0 where there is none.
 
+ghost use Rattle.sfc_tools.specs.Outcomes.{TellsOutcome};
 ghost use Rattle.sfc_tools.specs.Reports.{TellsFaultsOfTests};
-ghost use Rattle.sfc_tools.specs.Runs.{TellsOutcome};
 ghost use Rattle.sfc_tools_c.specs.Texts.{GivesWhat};
 
 use crate::answering::give;

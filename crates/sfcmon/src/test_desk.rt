@@ -3,7 +3,7 @@
 use sfc_cover::cover::Cover;
 use sfc_replay::replay_error::ReplayError;
 use sfc_test::desk::Desk;
-use std::alloc::Global;
+use std::alloc::{AllocError, Global};
 
 /// What all cases reach together, where that is asked, and the script of the first case that failed.
 #[derive(Drop)]
@@ -53,7 +53,7 @@ impl Desk for TestDesk {
         self.cover.is_some()
     }
 
-    fn take(&mut self, script: &[u8], has_failed: bool) -> Result<(), ReplayError> {
+    fn take(&mut self, script: &[u8], has_failed: bool) -> Result<(), AllocError> {
         if has_failed && self.script.is_none() {
             let mut kept = Vec::new(self.alloc);
             kept.extend_from_slice(script)?;
@@ -64,11 +64,13 @@ impl Desk for TestDesk {
         };
         let mut script = script;
         match cover.play(self.alloc, &mut script) {
+            Ok(()) => Ok(()),
             Err(ReplayError::Script(_)) => {
                 self.is_cut = true;
                 Ok(())
             }
-            ended => ended,
+            // The chart was read before, and no device is here.
+            Err(_) => Err(AllocError),
         }
     }
 }

@@ -1,5 +1,5 @@
 -- One transition of a scan.
-use Rattle.std.specs.Prelude.{ℕ, ◌≡◌, ◌==◌, ◌&&◌, Bool, false, cond, List, Result, Ok, ◌+◌, length, slice_get}
+use Rattle.std.specs.Prelude.{ℕ, ◌≡◌, ◌==◌, ◌&&◌, Bool, false, cond, List, Result, Ok, Err, ◌+◌, length, slice_get}
 use Rattle.std.specs.List.{list_any}
 use Rattle.sfc_flags.specs.Flags.{flag}
 use Rattle.sfc_base.specs.declared.ids.TransitionId.{TransitionId}
@@ -7,6 +7,7 @@ use Rattle.sfc_expr.specs.declared.fault.Fault.{Fault}
 use Rattle.sfc_expr.specs.Environment.{Environment}
 use Rattle.sfc_plant.specs.declared.chart.Chart.{Chart}
 use Rattle.sfc_tables.specs.Tables.{Tabled}
+use Rattle.sfc_instance.specs.declared.conditions.TransitionFault.{TransitionFault}
 use Rattle.sfc_instance.specs.Life.{Life}
 use Rattle.sfc_expr.specs.Meaning.{truth_of}
 use Rattle.sfc_expr.specs.Nodes.{nodes}
@@ -17,6 +18,11 @@ use Rattle.sfc_instance.specs.ProgramScan.{enabled, condition_in, condition_resu
 abbrev pub evaluated : Tabled → Chart → Environment → Life → ℕ → Result Bool Fault
 evaluated tables chart env life tr =
     cond (enabled tables life tr) (truth_of (condition_result chart env tr)) (Ok false)
+
+-- with the transition of a fault
+abbrev pub at_transition : TransitionId → Result Bool Fault → Result Bool TransitionFault
+at_transition tr (Ok holds) = Ok holds
+at_transition tr (Err f) = Err (record { transition = tr; fault = f })
 
 -- the transition is among these
 abbrev pub is_among : List TransitionId → ℕ → Bool

@@ -1,6 +1,7 @@
 use Rattle.std.proofs.Common.{◌+◌, ◌-◌, ◌++◌, arith, List, length, refl, ap, sym, ◌∙◌}
 use Rattle.sfc_plant.specs.declared.action.Action.{Action}
-use Rattle.sfc_instance.proofs.Acted.{acts_on, acts_end, acts_all, work_split}
+use Rattle.sfc_instance.specs.Private.Acting.{kind_in}
+use Rattle.sfc_instance.proofs.Acted.{acts_on, acts_end, acts_all, kind_told, work_split}
 use Rattle.sfc_instance.proofs.Outputs.{all_declared, counted, declared, declared_at, work_left}
 use Rattle.sfc_instance.proofs.acting.act.Goals as goal
 
@@ -57,7 +58,7 @@ loop-action-preserved c =
       agrees = λ plant life t committed tried after h.
           let b = before.agrees plant life t committed tried after h in
           acts_on plant c.args.acting.context.instance life t committed targets c.args.from i target c.act_one-answer.new.image tried (b.tried ++ committed)
-          c.act_one-answer.result (sym c.is_err.ensures.value ∙ c.if-is_err.false) next.0 next.1 (made.agrees plant life t committed b.tried after b.agrees) b.rest;
+          (kind_in c.act_one-answer.result) (kind_told c.act_one-answer.result ∙ sym c.is_err.ensures.value ∙ c.if-is_err.false) next.0 next.1 (made.agrees plant life t committed b.tried after b.agrees) b.rest;
       from = omega (arith, before.from);
       rises = omega (arith, before.rises, made.ticks.0);
       ticks = omega (arith, work, made.ticks.1, before.ticks);
@@ -77,7 +78,7 @@ returns-then-is_err-clause-agrees c plant life t committed tried after h =
     let target = declared (i - first) in
     let b = c.loop-action.invariant.agrees plant life t committed tried after h in
     acts_end plant c.args.acting.context.instance life t committed targets c.args.from i target c.act_one-answer.new.image tried (b.tried ++ committed)
-    c.act_one-answer.result (sym c.is_err.ensures.value ∙ c.if-is_err.true) next.0 next.1
+    (kind_in c.act_one-answer.result) (kind_told c.act_one-answer.result ∙ sym c.is_err.ensures.value ∙ c.if-is_err.true) next.0 next.1
     (c.act_one-answer.ensures.agrees plant life t committed b.tried after b.agrees) b.rest
 
 pub returns-then-is_err-clause-ticks : goal.returns-then-is_err-clause-ticks

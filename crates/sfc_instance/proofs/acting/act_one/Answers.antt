@@ -1,16 +1,19 @@
-use Rattle.std.proofs.Common.{◌≡◌, true, false, slice_get, sym, ap, ◌∙◌}
-use Rattle.sfc_expr.specs.Trees.{body_of}
+use Rattle.std.proofs.Common.{◌≡◌, ◌++◌, true, false, slice_get, Result, sym, ap, subst, ◌∙◌}
+use Rattle.sfc_expr.specs.declared.fault.Fault.{Fault}
+use Rattle.sfc_expr.specs.Trees.{Body, body_of}
 use Rattle.sfc_plant.specs.declared.chart.Chart.{Chart}
 use Rattle.sfc_tables.specs.Tables.{Tabled, tables_of}
 use Rattle.sfc_action.specs.ActionControl as control
 use Rattle.sfc_image.specs.Changes.{trying}
-use Rattle.sfc_image.specs.Environments.{moment_of}
+use Rattle.sfc_image.specs.Environments.{environment_of, moment_of}
+use Rattle.sfc_image.specs.BodyFaults.{statements_done}
+use Rattle.sfc_instance.specs.Private.Acting.{kind_in}
 use Rattle.sfc_instance.specs.Life.{control_scans, evolution_rows}
 use Rattle.sfc_evolve.specs.Evolution.{active_steps}
 use Rattle.sfc_plant.specs.Finding.{chart_of}
 use Rattle.sfc_instance.specs.ProgramScan.{body_in, moment, step_times}
 use Rattle.sfc_instance.specs.Agreement.{StateAgrees}
-use Rattle.sfc_instance.proofs.Acted.{body_acted, passed}
+use Rattle.sfc_instance.proofs.Acted.{IsTellingOf, body_acted, kind_telling, passed}
 use Rattle.sfc_instance.proofs.Readings.{tables_is}
 use Rattle.sfc_instance.proofs.acting.act_one.Goals as goal
 
@@ -48,6 +51,11 @@ returns-clause-agrees c plant life t committed tried after h =
     let moment_is : moment_of c.args.acting.steps c.q-q.result
     ≡ moment (tables_of (chart_of plant p)) life t (control.q (tables_of (chart_of plant p)) a (control_scans (tables_of (chart_of plant p)) life)) =
     (λ i. record { active = active i; times = times i; q = q i }) in
-    body_acted plant p life t a committed tried c.execute.new.self id c.execute.result (body_of c.body_of-body.result.now)
+    let env = environment_of plant (tried ++ committed) p (moment_of c.args.acting.steps c.q-q.result) in
+    let statements : Body = body_of c.body_of-body.result.now in
+    body_acted plant p life t a committed tried c.execute.new.self id (kind_in c.execute.result) statements
     (moment_of c.args.acting.steps c.q-q.result) on body moment_is
-    (c.execute.ensures.result plant (trying committed tried) h) (c.execute.ensures.agrees plant (trying committed tried) h)
+    (subst (λ (r : Result (Unit {0}) Fault). IsTellingOf plant p life t a committed tried c.execute.new.self id (statements_done statements env)
+    (kind_in c.execute.result) r) (c.execute.ensures.result plant (trying committed tried) h)
+    (kind_telling plant p life t a committed tried c.execute.new.self id (statements_done statements env) c.execute.result))
+    (c.execute.ensures.agrees plant (trying committed tried) h)

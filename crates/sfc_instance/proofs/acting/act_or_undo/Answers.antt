@@ -2,7 +2,6 @@ use Rattle.std.proofs.Common.{to_z-of_z, ◌≡◌, ◌+◌, ◌-◌, ◌≤◌,
 use Rattle.std.proofs.lemmas.Bool.Decides.{nat_tests}
 use Rattle.sfc_action.specs.ActionControl.{executed}
 use Rattle.sfc_base.specs.declared.ids.ProgId.{ProgId}
-use Rattle.sfc_expr.specs.declared.fault.Fault.{Fault}
 use Rattle.sfc_plant.specs.Plants.{PlantData}
 use Rattle.sfc_plant.specs.declared.action.Action.{Action}
 use Rattle.sfc_plant.specs.declared.chart.Chart.{Chart}
@@ -11,11 +10,11 @@ use Rattle.sfc_image.specs.Changes.{Change, settled, trying}
 use Rattle.sfc_image.specs.Outputs.{outputs}
 use Rattle.sfc_tables.specs.Tables.{Tabled, tables_of}
 use Rattle.sfc_instance.specs.Contexts.{IsContextOf}
-use Rattle.sfc_instance.specs.Life.{Life, control_scans}
+use Rattle.sfc_instance.specs.Life.{Life, PlacedFault, control_scans}
 use Rattle.sfc_instance.specs.Agreement.{StateAgrees}
 use Rattle.sfc_instance.specs.ProgramScan.{after_actions, step_times}
 use Rattle.sfc_instance.specs.Work.{actions_work}
-use Rattle.sfc_instance.specs.Private.Acting.{Acts, HasActed}
+use Rattle.sfc_instance.specs.Private.Acting.{Acts, HasActed, kind_in}
 use Rattle.sfc_instance.proofs.Left.{closed}
 use Rattle.sfc_instance.proofs.Outputs.{all_declared, counted, action_id, declared_at, outputs_first, work_first, work_left}
 use Rattle.sfc_instance.proofs.Readings.{tables_is}
@@ -154,7 +153,7 @@ returns-clause-agrees c plant life changes context state h =
     })
     (c.assign_outputs.ensures.agrees plant (trying changes []) (made c.before.before.before.before.before.before.before.before.before.before plant life context state) (c.begin_if.ensures.begun (grind (arith, nat_tests, c.if-not-is_body.false)) plant changes h)) in
     closed plant changes c.act-answer.new.image c.close.new.image _ c.act-answer.result
-    (subst (λ (r : Result (List Change) Fault). Acts plant changes c.act-answer.new.image c.act-answer.result r)
+    (subst (λ (r : Result (List Change) PlacedFault). Acts plant changes c.act-answer.new.image (kind_in c.act-answer.result) r)
     (ap (after_actions plant p life c.args.t c.first_executed-from.result (drop c.first_executed-from.result tables.actions)) (append_assoc done [] changes)
     ∙ from_executed c.before.before.before.before.before.before.before.before.before.before plant life context state changes) acts)
     (λ on tried agrees. c.close.ensures.agrees (c.is_ok.ensures.value ∙ on) plant changes tried agrees)

@@ -18,6 +18,7 @@ use Rattle.sfc_instance.specs.ProgramScan.{condition_fault}
 use Rattle.sfc_instance.specs.Private.Evaluating.{test_work}
 use Rattle.sfc_evolve.specs.Clearing.{transition_count}
 use Rattle.sfc_instance.proofs.Candidates.{fault_is, none_other, flag_next, flag_kept, sound_next, fault_next, work_covers, work_left}
+use Rattle.sfc_instance.proofs.Evaluated.{ok_inside}
 use Rattle.sfc_instance.proofs.conditions.evaluate_all.Goals.{then-branch, else-branch}
 use Rattle.sfc_instance.proofs.conditions.evaluate_all.Goals as goal
 
@@ -122,7 +123,7 @@ candidates-preserved g c =
     let below : u.0 < length tables.sides = ranked_at tables c.ranked-ranked.ensures.tables tables.ranked refl j d lt in
     let inside : u.0 < length c.candidates.conditions = omega (arith, below, c.candidates.invariant.len, c.requires.len) in
     let is : (life : Life) → StepsAgree tables c.args.steps.now (evolution_scans life) → Ok c.in_ok-evaluate.field-0 ≡ evaluated tables chart env life u.0 =
-    λ life h. c.in_ok-evaluate.ensures.value life h ∙ ap (λ (y : TransitionId). evaluated tables chart env life y.0) same in
+    λ life h. ok_inside t (evaluated tables chart env life t.0) c.in_ok-evaluate.field-0 (c.in_ok-evaluate.ensures.value life h) ∙ ap (λ (y : TransitionId). evaluated tables chart env life y.0) same in
     let faults : (life : Life) → StepsAgree tables c.args.steps.now (evolution_scans life) → condition_fault tables chart env life tables.ranked
     ≡ condition_fault tables chart env life rest =
     λ life h. c.candidates.invariant.faults life h

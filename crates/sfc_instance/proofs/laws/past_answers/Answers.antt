@@ -40,3 +40,6 @@ returns-clause-scans c tables instance_state other e = ap (λ p. p.scans) e
 
 pub returns-clause-fault : goal.returns-clause-fault
 returns-clause-fault c tables instance_state other e = ap (λ p. p.fault) e
+
+pub returns-clause-place : goal.returns-clause-place
+returns-clause-place c tables instance_state other e = ap (λ p. p.place) e

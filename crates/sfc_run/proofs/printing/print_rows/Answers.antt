@@ -1,6 +1,8 @@
-use Rattle.std.proofs.Common.{refl, sym, subst}
+use Rattle.std.proofs.Common.{◌∙◌, refl, sym, subst}
 use Rattle.std.proofs.lemmas.Result.{err_from_is_err_and}
 use Rattle.std.specs.Prelude.{Option, IsSome}
+use Rattle.sfc_control.specs.sfc_debug.Steered.{Steered}
+use Rattle.sfc_run.specs.Resuming.{IsReady}
 use Rattle.sfc_run.specs.declared.draining.Drained.{Drained}
 use Rattle.sfc_run.proofs.RowLines.{told_none, told_more, told_front, reaches_same, reaches_on, reached}
 use Rattle.sfc_run.proofs.printing.print_rows.Goals as goal
@@ -9,7 +11,11 @@ pub rounds-init : goal.rounds-init
 rounds-init g c = record {
   lines = told_none g.W.Write.contents g.T.Write.contents g.F.Write.contents c.args.printing.now;
   known = reaches_same c.args.printing.now.watch.tail;
+  follows = c.requires;
 }
+
+pub print_some-requires : goal.print_some-requires
+print_some-requires g c = c.rounds.invariant.follows.1
 
 pub returns-in_err-some-clause-lines : goal.returns-in_err-some-clause-lines
 returns-in_err-some-clause-lines g c =
@@ -47,4 +53,12 @@ rounds-preserved g c = record {
       c.rounds.invariant.lines c.in_ok-some.ensures.lines;
   known = reaches_on c.args.printing.now.watch.tail c.rounds.printing.watch.tail c.print_some.new.printing.watch.tail
       c.rounds.invariant.known c.in_ok-some.ensures.known;
+  follows =
+      let steered = c.print_some.ensures.steered ∙ c.rounds.invariant.follows.0 in (
+        steered,
+        record {
+          ready = subst (λ (s : Steered). IsReady s c.catch_up-is_saved.new.self) (sym steered) c.catch_up-is_saved.ensures;
+          alike = c.print_some.ensures.ready.alike;
+        },
+      );
 }

@@ -37,17 +37,19 @@ returns-clause-lines g c =
         was.2.alike,
         λ h agrees.
             let a = was.2.alarms h agrees in
-            let recorded : c.deref.result.now ≡ a.3 =
-            c.deref.ensures.value ∙ a.6 ∙ ap (λ (t : List ℕ). t ++ a.3) c.new-4.ensures.items in
-            let told : c.deref-2.result.now ≡ a.1 =
-            c.deref-2.ensures.value ∙ a.4 ∙ ap (λ (t : List ℕ). t ++ a.1) c.new-2.ensures.items in
-            let shown : c.deref-4.result.now ≡ a.2 =
-            c.deref-4.ensures.value ∙ a.5 ∙ ap (λ (t : List ℕ). t ++ a.2) c.new-3.ensures.items in (
+            let recorded : c.deref.result.now ≡ a.5 =
+            c.deref.ensures.value ∙ a.8 ∙ ap (λ (t : List ℕ). t ++ a.5) c.new-4.ensures.items in
+            let told : c.deref-2.result.now ≡ a.3 =
+            c.deref-2.ensures.value ∙ a.6 ∙ ap (λ (t : List ℕ). t ++ a.3) c.new-2.ensures.items in
+            let shown : c.deref-4.result.now ≡ a.4 =
+            c.deref-4.ensures.value ∙ a.7 ∙ ap (λ (t : List ℕ). t ++ a.4) c.new-3.ensures.items in (
               a.0,
               a.1,
               a.2,
               a.3,
-              a.7,
+              a.4,
+              a.5,
+              a.9,
               subst (λ (t : List ℕ). Passes c.tell.new.self.has_failed printing.teller.has_failed
                   (g.T.Write.contents printing.teller.w) (g.T.Write.contents c.tell.new.self.w) t) told c.tell.ensures,
               subst (λ (t : List ℕ). Passes c.tell-2.new.self.has_failed printing.shower.has_failed

@@ -17,3 +17,14 @@ returns-clause-alike c =
     let tables : table_of c.in_ok-before.before ≡ table_of c.in_ok-follower.follower =
     c.in_ok-before.ensures.table ∙ sym c.in_ok-follower.ensures.table in
     λ i. record { plant = plants i; table = tables i }
+
+pub returns-clause-same : goal.returns-clause-same
+returns-clause-same c =
+    let one = c.in_ok-follower.ensures.loaded in
+    let two = c.in_ok-debugger.ensures.loaded in
+    let tree : one.tree ≡ two.tree = c.one_reading.ensures c.args.text.now (Ok one.tree) (Ok two.tree) one.read two.read in
+    let plants : plant_of c.in_ok-follower.follower ≡ plant_of c.in_ok-debugger.debugger =
+    sym one.built ∙ ap (λ t. built.plant_of t) tree ∙ two.built in
+    let tables : table_of c.in_ok-follower.follower ≡ table_of c.in_ok-debugger.debugger =
+    c.in_ok-follower.ensures.table ∙ sym c.in_ok-debugger.ensures.table in
+    λ i. record { plant = plants i; table = tables i }

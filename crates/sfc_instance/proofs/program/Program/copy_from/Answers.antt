@@ -16,4 +16,5 @@ returns-clause-agrees c instance_state agrees =
       scans = agrees.scans;
       at = to_z-of_z (fits other.at other.at_low other.at_high) ∙ agrees.at;
       fault = agrees.fault;
+      place = agrees.place;
     }

@@ -10,4 +10,5 @@ returns-clause-agrees c instance_state agrees = record {
   scans = refl;
   at = refl;
   fault = refl;
+  place = refl;
 }

@@ -1,4 +1,4 @@
-use Rattle.std.proofs.Common.{◌≡◌, ◌∷◌, is_ok, true, sym, ap, subst, ◌∙◌, to_z-of_z}
+use Rattle.std.proofs.Common.{◌≡◌, ◌∷◌, is_ok, true, arith, sym, ap, subst, ◌∙◌, to_z-of_z}
 use Rattle.std.specs.Result.{result_err}
 use Rattle.sfc_action.specs.ActionControl as control
 use Rattle.sfc_instance.specs.declared.state.State.{State}
@@ -30,7 +30,7 @@ returns-in-Err-finish-clause-agrees c plant life changes context state h =
     let advanced : StateAgrees tables c.advance.new.self (row ∷ life) =
     simp (to_z-of_z, c.ranges.t) at (on_ok c.advance.result _ on c.advance.ensures.agrees life state) in
     body_ends plant c.args.context context life changes c.args.t row c.in-Err-finish.fault c.finish.result c.follow.new.self c.finish.new.self.now
-    c.finish.new.image (ap result_err (sym c.in-Ok.is) ∙ fault_is) c.in-Err-finish.is (c.finish.ensures.now (row ∷ life) advanced)
+    c.finish.new.image c.finish.new.self.place (ap result_err (sym c.in-Ok.is) ∙ fault_is) c.in-Err-finish.is (c.finish.ensures.now (row ∷ life) advanced)
     (simp (to_z-of_z, c.ranges.t) at (c.finish.ensures.agrees plant (row ∷ life) changes context advanced h)) agreed
 
 pub returns-in-Ok-finish-clause-agrees : goal.returns-in-Ok-finish-clause-agrees
@@ -44,5 +44,13 @@ returns-in-Ok-finish-clause-agrees c plant life changes context state h =
     let advanced : StateAgrees tables c.advance.new.self (row ∷ life) =
     simp (to_z-of_z, c.ranges.t) at (on_ok c.advance.result _ on c.advance.ensures.agrees life state) in
     ends_well plant c.args.context context life changes c.args.t row c.in-Ok-finish.field-0 c.finish.result c.follow.new.self c.finish.new.self.now
-    c.finish.new.image (ap result_err (sym c.in-Ok.is) ∙ fault_is) c.in-Ok-finish.is (c.finish.ensures.now (row ∷ life) advanced)
+    c.finish.new.image c.finish.new.self.place (ap result_err (sym c.in-Ok.is) ∙ fault_is) c.in-Ok-finish.is (c.finish.ensures.now (row ∷ life) advanced)
     (simp (to_z-of_z, c.ranges.t) at (c.finish.ensures.agrees plant (row ∷ life) changes context advanced h))
+
+pub returns-in-Ok-finish-clause-good : goal.returns-in-Ok-finish-clause-good
+returns-in-Ok-finish-clause-good c = omega (
+  arith,
+  on_ok c.finish.result _ (ap is_ok c.in-Ok-finish.is) c.finish.ensures.good,
+  c.follow.ensures.ticks,
+  c.advance.ensures.ticks,
+)

@@ -1,9 +1,9 @@
-use Rattle.std.proofs.Common.{◌≡◌, ℤ, is_ok, true, sym, ap, subst, ◌∙◌, to_z-of_z}
+use Rattle.std.proofs.Common.{◌≡◌, ℤ, is_ok, true, arith, sym, ap, subst, ◌∙◌, to_z-of_z}
 use Rattle.std.specs.Prelude.{false}
 use Rattle.std.specs.Result.{result_err}
 use Rattle.sfc_instance.specs.ProgramScan.{condition_fault, environment, next_row, with_row}
 use Rattle.sfc_instance.specs.Private.Scanning.{HasScanned, row_in}
-use Rattle.sfc_instance.proofs.Left.{on_ok}
+use Rattle.sfc_instance.proofs.Left.{more_ok, on_ok}
 use Rattle.sfc_instance.proofs.Scanned.{condition_ends, goes_on}
 use Rattle.sfc_instance.proofs.scan_run.ScanRun.scan.Goals as goal
 
@@ -31,7 +31,10 @@ returns-in-Ok-clause-agrees c plant life changes context state h =
     ap (row_in c.read.new.self) (sym (to_z-of_z c.ranges.t)) ∙ on_ok c.read.result _ on c.read.ensures.row plant life changes context state h
     ∙ ap (next_row plant c.args.context.instance life changes) (to_z-of_z c.ranges.t) in
     let done = subst (λ (x : ℤ). HasScanned plant tables life changes (row_in c.read.new.self x) c.go_on.new.self.now c.go_on.new.image c.go_on.result
-    (with_row plant c.args.context.instance life changes x (row_in c.read.new.self x))) (to_z-of_z c.ranges.t)
+    c.go_on.new.self.place (with_row plant c.args.context.instance life changes x (row_in c.read.new.self x))) (to_z-of_z c.ranges.t)
     (c.go_on.ensures.agrees plant life changes context state h) in
-    goes_on plant c.args.context context life changes c.args.t (row_in c.read.new.self c.args.t) c.go_on.result c.go_on.new.self.now c.go_on.new.image
+    goes_on plant c.args.context context life changes c.args.t (row_in c.read.new.self c.args.t) c.go_on.result c.go_on.new.self.place c.go_on.new.self.now c.go_on.new.image
     (ap result_err (sym c.in-Ok.is) ∙ fault_is) row done
+
+pub returns-in-Ok-clause-good : goal.returns-in-Ok-clause-good
+returns-in-Ok-clause-good c = more_ok c.go_on.result _ _ (λ h. omega (arith, h, c.read.ensures.ticks)) c.go_on.ensures.good
