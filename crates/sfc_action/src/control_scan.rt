@@ -11,7 +11,6 @@ use crate::timed::Timed;
 use crate::timed_words::TimedWords;
 use sfc_base::ticks::Ticks;
 use sfc_flags::flags::Flags;
-use sfc_flags::sparse_flags::SparseFlags;
 use sfc_tables::tables::Tables;
 use std::alloc::{AllocError, Global};
 
@@ -133,7 +132,7 @@ impl ControlScan {
         &mut self,
         stored: &Kept,
         tables: &Tables,
-        active: &SparseFlags,
+        active: &Flags,
         associations: Associations<'_>,
         ticks: &mut Ticks,
     ) -> Settled

@@ -7,7 +7,6 @@ use crate::kept::Kept;
 use crate::state_words::StateWords;
 use sfc_base::ticks::Ticks;
 use sfc_flags::flags::Flags;
-use sfc_flags::sparse_flags::SparseFlags;
 use std::alloc::{AllocError, Global};
 
 /// Of each action the inputs P, P1 and P0 of the newest scan, its flip-flops, its Q and whether it was executed, and the
@@ -15,7 +14,7 @@ use std::alloc::{AllocError, Global};
 pub struct ControlState {
     pub kept: Kept,
     pub q: Flags,
-    pub executed: SparseFlags,
+    pub executed: Flags,
     pub blocks: Delays,
     pub is_single: bool,
 }
@@ -62,7 +61,7 @@ impl ControlState {
         Ok(ControlState {
             kept: Kept::new(alloc, actions)?,
             q: Flags::new(alloc, actions)?,
-            executed: SparseFlags::new(alloc, actions)?,
+            executed: Flags::new(alloc, actions)?,
             blocks,
             is_single,
         })
@@ -203,7 +202,7 @@ impl ControlState {
         ensures rested { self.new ≡ rested self.old }
         ensures ticks { Within (length self.old.q) ticks.old ticks.new }
     {
-        self.executed.copy_flags(&self.q, ticks);
+        self.executed.copy_from(&self.q, ticks);
     }
 
     /// Takes over which actions the other executed, which has as many.

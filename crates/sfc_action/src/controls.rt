@@ -55,7 +55,6 @@ use sfc_base::ids::ActionNumber;
 use sfc_base::ticks::Ticks;
 use sfc_evolve::steps::Steps;
 use sfc_flags::flags::Flags;
-use sfc_flags::sparse_flags::SparseFlags;
 use sfc_tables::tables::Tables;
 use std::alloc::{AllocError, Global};
 
@@ -179,7 +178,7 @@ impl Controls {
     }
 
     /// Which actions the newest scan executed, by number.
-    pub fn executed_flags(&self) -> &SparseFlags
+    pub fn executed_flags(&self) -> &Flags
         ensures len { length result.now ≡ action_total self.now }
         ensures each { (tables : Tabled) (h : List Scan) (action : ℕ) → action < action_total self.now →
             ControlsAgree tables self.now h → flag result.now action ≡ executed tables action h }

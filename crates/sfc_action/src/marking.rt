@@ -16,7 +16,7 @@ use crate::associations::Associations;
 use crate::inputs::Inputs;
 use crate::step_input::PlainRun;
 use sfc_base::ticks::Ticks;
-use sfc_flags::sparse_flags::SparseFlags;
+use sfc_flags::flags::Flags;
 use sfc_plant::association::Qualifier;
 use sfc_tables::step_action::StepAction;
 use sfc_tables::tables::Tables;
@@ -78,7 +78,7 @@ fn note_all(
 #[derive(Clone, Copy)]
 struct WordOfSteps<'a> {
     tables: &'a Tables,
-    active: &'a SparseFlags,
+    active: &'a Flags,
     number: usize,
 }
 
@@ -136,7 +136,7 @@ fn mark_words(
     inputs: &mut Inputs,
     presets: &mut [i64],
     tables: &Tables,
-    active: &SparseFlags,
+    active: &Flags,
     associations: Associations<'_>,
     ticks: &mut Ticks,
 )
@@ -168,7 +168,7 @@ pub fn mark_active(
     inputs: &mut Inputs,
     presets: &mut [i64],
     tables: &Tables,
-    active: &SparseFlags,
+    active: &Flags,
     associations: Associations<'_>,
     ticks: &mut Ticks,
 )

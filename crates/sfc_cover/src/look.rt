@@ -131,7 +131,7 @@ fn note_transitions(reach: &mut Reach, view: &ProgramView<'_>) {
 /// actions.
 pub fn note_after(reach: &mut Reach, view: &ProgramView<'_>) {
     reach.scans = reach.scans.saturating_add(1);
-    mark_all(&mut reach.steps, view.active_flags().flags());
+    mark_all(&mut reach.steps, view.active_flags());
     note_transitions(reach, view);
-    mark_all(&mut reach.actions, view.executed_flags().flags());
+    mark_all(&mut reach.actions, view.executed_flags());
 }

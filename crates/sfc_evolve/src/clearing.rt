@@ -12,15 +12,15 @@ ghost use Rattle.sfc_evolve.specs.Private.Proposing.{AreProposed};
 use crate::marks::{all_set, mark, some_set};
 use sfc_base::references::StepId;
 use sfc_base::ticks::Ticks;
-use sfc_flags::sparse_flags::SparseFlags;
+use sfc_flags::flags::Flags;
 use sfc_tables::tables::Tables;
 
 // Whether a transition is cleared after those whose preceding steps are used; if so it uses its own.
 fn clear_one(
     preceding: &[StepId],
     condition: bool,
-    active: &SparseFlags,
-    used: &mut SparseFlags,
+    active: &Flags,
+    used: &mut Flags,
     ticks: &mut Ticks,
 ) -> bool
     requires within { AllBelow (length active.now) preceding.now }
@@ -44,10 +44,10 @@ fn clear_one(
 pub fn clear_in_order(
     tables: &Tables,
     conditions: &[bool],
-    active: &SparseFlags,
-    candidates: &SparseFlags,
-    used: &mut SparseFlags,
-    cleared: &mut SparseFlags,
+    active: &Flags,
+    candidates: &Flags,
+    used: &mut Flags,
+    cleared: &mut Flags,
     ticks: &mut Ticks,
 )
     requires tables { AreTables tables.now }

@@ -7,16 +7,11 @@ ghost use Rattle.sfc_flags.specs.Words.{has, word_of, ArePut};
 ghost use Rattle.sfc_evolve.specs.Private.Keeping.{number};
 
 use sfc_base::ticks::Ticks;
-use sfc_flags::sparse_flags::SparseFlags;
+use sfc_flags::flags::Flags;
 use sfc_flags::word::Word;
 
 /// Takes over the flags of two tables. The caller counts it: a tick for what is copied of a step or of a transition.
-pub fn copy_flags(
-    first: &mut SparseFlags,
-    second: &mut SparseFlags,
-    from_first: &SparseFlags,
-    from_second: &SparseFlags,
-)
+pub fn copy_flags(first: &mut Flags, second: &mut Flags, from_first: &Flags, from_second: &Flags)
     requires second_len { length second.old ≡ length first.old }
     requires from_first_len { length from_first.now ≡ length first.old }
     requires from_second_len { length from_second.now ≡ length first.old }
@@ -101,8 +96,8 @@ pub fn copy_moved(
     since: &mut [i64],
     held_times: &mut [i64],
     from: KeptTimes<'_>,
-    active: &SparseFlags,
-    on: &SparseFlags,
+    active: &Flags,
+    on: &Flags,
 )
     requires held_times_len { length held_times.old ≡ length since.old }
     requires since_len { length from.since.now ≡ length since.old }

@@ -13,14 +13,14 @@ use crate::marks::{mark, unmark};
 use crate::times::leave;
 use sfc_base::ids::TransitionId;
 use sfc_base::ticks::Ticks;
-use sfc_flags::sparse_flags::SparseFlags;
+use sfc_flags::flags::Flags;
 use sfc_tables::tables::Tables;
 
 /// The transitions of a chart that a scan clears, and the scan's instant.
 #[derive(Clone, Copy)]
 pub struct Cleared<'a> {
     pub tables: &'a Tables,
-    pub flags: &'a SparseFlags,
+    pub flags: &'a Flags,
     pub t: i64,
 }
 
@@ -28,10 +28,10 @@ pub struct Cleared<'a> {
 /// flags are cleared. Those after them are marked.
 pub fn move_on(
     scan: Cleared<'_>,
-    active: &mut SparseFlags,
+    active: &mut Flags,
     held_times: &mut [i64],
     since: &[i64],
-    on: &mut SparseFlags,
+    on: &mut Flags,
     ticks: &mut Ticks,
 )
     requires tables { AreTables scan.tables.now }

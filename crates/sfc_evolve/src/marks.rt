@@ -9,10 +9,10 @@ ghost use Rattle.sfc_evolve.specs.Private.Keeping.{AllBelow, unmarked};
 
 use sfc_base::references::StepId;
 use sfc_base::ticks::Ticks;
-use sfc_flags::sparse_flags::SparseFlags;
+use sfc_flags::flags::Flags;
 
 /// Whether each of these steps has its flag.
-pub fn all_set(flags: &SparseFlags, steps: &[StepId], ticks: &mut Ticks) -> bool
+pub fn all_set(flags: &Flags, steps: &[StepId], ticks: &mut Ticks) -> bool
     requires { AllBelow (length flags.now) steps.now }
     ensures value { result ≡ list_all (λ step. flag flags.now step.0) steps.now }
     ensures ticks { Within (length steps.now) ticks.old ticks.new }
@@ -27,7 +27,7 @@ pub fn all_set(flags: &SparseFlags, steps: &[StepId], ticks: &mut Ticks) -> bool
 }
 
 /// Whether one of these steps has its flag.
-pub fn some_set(flags: &SparseFlags, steps: &[StepId], ticks: &mut Ticks) -> bool
+pub fn some_set(flags: &Flags, steps: &[StepId], ticks: &mut Ticks) -> bool
     requires { AllBelow (length flags.now) steps.now }
     ensures value { result ≡ list_any (λ step. flag flags.now step.0) steps.now }
     ensures ticks { Within (length steps.now) ticks.old ticks.new }
@@ -42,7 +42,7 @@ pub fn some_set(flags: &SparseFlags, steps: &[StepId], ticks: &mut Ticks) -> boo
 }
 
 /// Whether no flag is set.
-pub fn is_blank(flags: &SparseFlags, ticks: &mut Ticks) -> bool
+pub fn is_blank(flags: &Flags, ticks: &mut Ticks) -> bool
     ensures blank { result ≡ true → places_from flags.now 0 ≡ [] }
     ensures ticks { Within (length flags.now) ticks.old ticks.new }
 {
@@ -50,7 +50,7 @@ pub fn is_blank(flags: &SparseFlags, ticks: &mut Ticks) -> bool
 }
 
 /// Sets the flags of these steps.
-pub fn mark(flags: &mut SparseFlags, steps: &[StepId], ticks: &mut Ticks)
+pub fn mark(flags: &mut Flags, steps: &[StepId], ticks: &mut Ticks)
     requires { AllBelow (length flags.old) steps.now }
     ensures flags { flags.new ≡ marked steps.now flags.old }
     ensures len { length flags.new ≡ length flags.old }
@@ -63,7 +63,7 @@ pub fn mark(flags: &mut SparseFlags, steps: &[StepId], ticks: &mut Ticks)
 }
 
 /// Clears the flags of these steps.
-pub fn unmark(flags: &mut SparseFlags, steps: &[StepId], ticks: &mut Ticks)
+pub fn unmark(flags: &mut Flags, steps: &[StepId], ticks: &mut Ticks)
     requires { AllBelow (length flags.old) steps.now }
     ensures flags { flags.new ≡ unmarked steps.now flags.old }
     ensures len { length flags.new ≡ length flags.old }

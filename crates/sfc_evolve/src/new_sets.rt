@@ -2,7 +2,7 @@
 
 ghost use Rattle.std.specs.Prelude.{◌≡◌, false, pos, replicate, IfOk};
 
-use sfc_flags::sparse_flags::SparseFlags;
+use sfc_flags::flags::Flags;
 use std::alloc::{AllocError, Global};
 
 /// Two lists with nothing but 0. The one error is that memory was refused.
@@ -16,25 +16,22 @@ pub fn two_lists(alloc: Global, count: usize) -> Result<(Vec<i64>, Vec<i64>), Al
 }
 
 /// Two tables with no flag set. The one error is that memory was refused.
-pub fn two_sets(alloc: Global, count: usize) -> Result<(SparseFlags, SparseFlags), AllocError>
+pub fn two_sets(alloc: Global, count: usize) -> Result<(Flags, Flags), AllocError>
     ensures first { IfOk result (λ sets. sets.0 ≡ replicate count false) }
     ensures second { IfOk result (λ sets. sets.1 ≡ replicate count false) }
 {
-    let first = SparseFlags::new(alloc, count)?;
-    let second = SparseFlags::new(alloc, count)?;
+    let first = Flags::new(alloc, count)?;
+    let second = Flags::new(alloc, count)?;
     Ok((first, second))
 }
 
 /// Three tables with no flag set. The one error is that memory was refused.
-pub fn three_sets(
-    alloc: Global,
-    count: usize,
-) -> Result<(SparseFlags, SparseFlags, SparseFlags), AllocError>
+pub fn three_sets(alloc: Global, count: usize) -> Result<(Flags, Flags, Flags), AllocError>
     ensures first { IfOk result (λ sets. sets.0 ≡ replicate count false) }
     ensures second { IfOk result (λ sets. sets.1 ≡ replicate count false) }
     ensures third { IfOk result (λ sets. sets.2 ≡ replicate count false) }
 {
     let (first, second) = two_sets(alloc, count)?;
-    let third = SparseFlags::new(alloc, count)?;
+    let third = Flags::new(alloc, count)?;
     Ok((first, second, third))
 }

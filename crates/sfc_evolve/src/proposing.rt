@@ -10,11 +10,11 @@ ghost use Rattle.sfc_evolve.specs.Private.Proposing.{proposed_by};
 
 use sfc_base::references::StepId;
 use sfc_base::ticks::Ticks;
-use sfc_flags::sparse_flags::SparseFlags;
+use sfc_flags::flags::Flags;
 use sfc_tables::tables::Tables;
 
 // Sets the flags of these places.
-fn set_places(flags: &mut SparseFlags, places: &[usize], ticks: &mut Ticks)
+fn set_places(flags: &mut Flags, places: &[usize], ticks: &mut Ticks)
     requires { All (λ p. p < length flags.old) places.now }
     ensures flags { flags.new ≡ set_at places.now flags.old }
     ensures len { length flags.new ≡ length flags.old }
@@ -27,12 +27,7 @@ fn set_places(flags: &mut SparseFlags, places: &[usize], ticks: &mut Ticks)
 }
 
 // Proposes the transitions whose first preceding step is active, where one word has all steps.
-fn propose_word(
-    tables: &Tables,
-    active: &SparseFlags,
-    candidates: &mut SparseFlags,
-    ticks: &mut Ticks,
-)
+fn propose_word(tables: &Tables, active: &Flags, candidates: &mut Flags, ticks: &mut Ticks)
     requires tables { AreTables tables.now }
     requires one { word_count active.now ≡ 1 }
     requires active_len { length active.now ≡ length tables.now.initial }
@@ -51,12 +46,7 @@ fn propose_word(
 
 /// Proposes, by place in rank order, the transitions whose first preceding step is active, and no others.
 #[inline(always)]
-pub fn propose(
-    tables: &Tables,
-    active: &SparseFlags,
-    candidates: &mut SparseFlags,
-    ticks: &mut Ticks,
-)
+pub fn propose(tables: &Tables, active: &Flags, candidates: &mut Flags, ticks: &mut Ticks)
     requires tables { AreTables tables.now }
     requires active_len { length active.now ≡ length tables.now.initial }
     requires candidates_len { length candidates.old ≡ length tables.now.sides }

@@ -7,11 +7,11 @@ ghost use Rattle.sfc_tables.specs.Tables.{AreTables};
 
 use sfc_base::references::StepId;
 use sfc_base::ticks::Ticks;
-use sfc_flags::sparse_flags::SparseFlags;
+use sfc_flags::flags::Flags;
 use sfc_tables::tables::Tables;
 
 // Gives each step its flag: whether it is initial.
-fn mark_initial(tables: &Tables, on: &mut SparseFlags, ticks: &mut Ticks)
+fn mark_initial(tables: &Tables, on: &mut Flags, ticks: &mut Ticks)
     requires tables { AreTables tables.now }
     requires on_len { length on.old ≡ length tables.now.initial }
     ensures flags { (s : ℕ) → s < length on.old → flag on.new s ≡ flag tables.now.initial s }
@@ -25,7 +25,7 @@ fn mark_initial(tables: &Tables, on: &mut SparseFlags, ticks: &mut Ticks)
 }
 
 /// Sets the flags of the initial steps in the first scan, and else none.
-pub fn start(tables: &Tables, first: bool, on: &mut SparseFlags, ticks: &mut Ticks)
+pub fn start(tables: &Tables, first: bool, on: &mut Flags, ticks: &mut Ticks)
     requires tables { AreTables tables.now }
     requires on_len { length on.old ≡ length tables.now.initial }
     ensures flags { (s : ℕ) → s < length on.old → flag on.new s ≡ (first && flag tables.now.initial s) }

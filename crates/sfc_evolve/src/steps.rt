@@ -15,7 +15,7 @@ use sfc_base::ids::TransitionId;
 use sfc_base::instants::time_since;
 use sfc_base::references::StepId;
 use sfc_base::ticks::Ticks;
-use sfc_flags::sparse_flags::SparseFlags;
+use sfc_flags::flags::Flags;
 use sfc_tables::tables::Tables;
 use std::alloc::{AllocError, Global};
 
@@ -24,13 +24,13 @@ use std::alloc::{AllocError, Global};
 /// it may be enabled. The rest is what a scan works on.
 pub struct Steps {
     begun: bool,
-    active: SparseFlags,
+    active: Flags,
     since: Vec<i64>,
     held_times: Vec<i64>,
-    cleared: SparseFlags,
-    candidates: SparseFlags,
-    used: SparseFlags,
-    on: SparseFlags,
+    cleared: Flags,
+    candidates: Flags,
+    used: Flags,
+    on: Flags,
     ghost since_len: { length since.items ≡ length active },
     ghost held_times_len: { length held_times.items ≡ length active },
     ghost candidates_len: { length candidates ≡ length cleared },
@@ -292,7 +292,7 @@ impl Steps {
     }
 
     /// Which steps are active, by number.
-    pub fn active_flags(&self) -> &SparseFlags
+    pub fn active_flags(&self) -> &Flags
         ensures len { length result.now ≡ step_total self.now }
         ensures flags { (tables : Tabled) (scans : List Scan) → StepsAgree tables self.now scans →
             result.now ≡ active_steps tables (rows_of tables scans) }
@@ -301,7 +301,7 @@ impl Steps {
     }
 
     /// Which transitions may be enabled, by place in rank order: each that is enabled is set (2.6.3, 2.6.5).
-    pub fn candidates(&self) -> &SparseFlags
+    pub fn candidates(&self) -> &Flags
         ensures len { length result.now ≡ transition_total self.now }
         ensures enabled { (tables : Tabled) (scans : List Scan) → StepsAgree tables self.now scans → AreTables tables →
             (j : ℕ) → j < length tables.sides →
@@ -392,7 +392,7 @@ impl Steps {
     }
 
     /// Which transitions the latest scan cleared, by number.
-    pub fn cleared_flags(&self) -> &SparseFlags
+    pub fn cleared_flags(&self) -> &Flags
         ensures len { length result.now ≡ transition_total self.now }
         ensures each { (tables : Tabled) (scans : List Scan) (tr : ℕ) → tr < transition_total self.now →
             StepsAgree tables self.now scans → flag result.now tr ≡ was_cleared (rows_of tables scans) tr }

@@ -9,7 +9,7 @@ ghost use Rattle.sfc_evolve.specs.Private.Keeping.{AllBelow, left_at, put_at, be
 use sfc_base::instants::time_since;
 use sfc_base::references::StepId;
 use sfc_base::ticks::Ticks;
-use sfc_flags::sparse_flags::SparseFlags;
+use sfc_flags::flags::Flags;
 
 /// These steps keep their times, as they are at t.
 pub fn leave(held_times: &mut [i64], since: &[i64], steps: &[StepId], t: i64, ticks: &mut Ticks)
@@ -49,17 +49,12 @@ pub fn begin_steps(since: &mut [i64], steps: &[StepId], t: i64, ticks: &mut Tick
 /// The steps that a scan activates, and its instant.
 #[derive(Clone, Copy)]
 pub struct Activated<'a> {
-    pub flags: &'a SparseFlags,
+    pub flags: &'a Flags,
     pub t: i64,
 }
 
 /// These steps become active, and begin at the scan's instant.
-pub fn begin(
-    active: &mut SparseFlags,
-    since: &mut [i64],
-    activated: Activated<'_>,
-    ticks: &mut Ticks,
-)
+pub fn begin(active: &mut Flags, since: &mut [i64], activated: Activated<'_>, ticks: &mut Ticks)
     requires low { pos 0 ≤ℤ activated.t }
     requires high { activated.t ≤ℤ pos (2 ^ 62) }
     requires instants { AreInstants since.old }

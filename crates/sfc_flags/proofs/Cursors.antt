@@ -1,36 +1,31 @@
 -- The steps of a walk over the set places of a table.
-use Rattle.std.proofs.Common.{◌≡◌, ℕ, suc, ◌+◌, ◌-◌, ◌*◌, ◌/◌, ◌%◌, ◌<◌, ◌≤◌, ◌==◌, ◌&&◌, not, Bool, true, false, List, [], ◌∷◌, length, drop, get_or, ◌∙◌, ap, refl, sym, inl, inr, arith, eq-eqb}
+use Rattle.std.proofs.Common.{◌≡◌, ℕ, ◌+◌, ◌*◌, ◌/◌, ◌%◌, ◌<◌, ◌≤◌, ◌==◌, ◌&&◌, not, Bool, true, false, List, [], ◌∷◌, length, ◌∙◌, ap, refl, sym, inl, inr, arith, eq-eqb}
+use mathlib.Core.Logic.{◌⊎◌}
 use Rattle.std.proofs.lemmas.Bool.{cases_eq, cases_lt, ne_eqb}
-use Rattle.std.proofs.lemmas.List.{get_or-drop}
+use Rattle.std.proofs.lemmas.List.{get_or_past}
 use Rattle.std.specs.Int.{bit_at}
 use Rattle.sfc_flags.specs.declared.word.Word.{Word}
-use Rattle.sfc_flags.specs.declared.cursor.Cursor.{Cursor}
-use Rattle.sfc_flags.specs.Cursors.{IsBefore, StandsAt}
-use Rattle.sfc_flags.specs.Flags.{flag, set_from, places_from}
-use Rattle.sfc_flags.specs.Words.{has, word_of}
-use Rattle.sfc_flags.proofs.Firsts.{and_true, below_set, clash}
+use Rattle.sfc_flags.specs.Cursors.{StandsAt}
+use Rattle.sfc_flags.specs.Flags.{flag, places_from}
+use Rattle.sfc_flags.specs.Words.{has, word_count, word_of}
 use Rattle.sfc_flags.proofs.Nexts.{next_place, no_place}
-use Rattle.sfc_flags.proofs.Summaries.{ShowsWord}
-use Rattle.sfc_flags.proofs.Summed.{on_or_off, still_left}
 
--- the first of the set places has its flag
-headed : (l : List Bool) (p i : ℕ) (rest : List ℕ) → set_from p l ≡ i ∷ rest → (p ≤ i) × (get_or l (i - p) false ≡ true)
-headed [] p i rest e = absurd (let no : [] ≡ i ∷ rest = e in cc)
-headed (true ∷ l) p i rest e =
-    let all : p ∷ set_from (suc p) l ≡ i ∷ rest = e in
-    let same : p ≡ i = cc in
-    let first : i - p ≡ 0 = omega arith in
-    (omega arith, rw first refl)
-headed (false ∷ l) p i rest e =
-    let more = headed l (suc p) i rest e in
-    let next : i - p ≡ suc (i - suc p) = omega (arith, more.0) in
-    (omega (arith, more.0), rw next more.1)
+clash : {A : Type 0} {b : Bool} → b ≡ true → b ≡ false → A
+clash on off = absurd (let no : true ≡ false = sym on ∙ off in cc)
 
-pub head_set : (flags : List Bool) (from i : ℕ) (rest : List ℕ) → places_from flags from ≡ i ∷ rest → flag flags i ≡ true
-head_set flags from i rest e =
-    let first = headed (drop from flags) from i rest e in
-    let at : from + (i - from) ≡ i = omega (arith, first.0) in
-    ap (λ k. get_or flags k false) (sym at) ∙ sym (get_or-drop from flags (i - from) false) ∙ first.1
+on_or_off : (b : Bool) → (b ≡ true) ⊎ (b ≡ false)
+on_or_off true = inl refl
+on_or_off false = inr refl
+
+below_set : (flags : List Bool) (i : ℕ) → flag flags i ≡ true → i < length flags
+below_set flags i on = elim (cases_lt i (length flags)) [
+  | inl lt ↦ lt
+  | inr ge ↦ clash on (get_or_past flags i false ge)
+]
+
+-- this word has the flags of the table
+abbrev pub ShowsWord : List Bool → ℕ → Word → Type 0
+ShowsWord flags k w = (place : ℕ) → word_of place ≡ k → has w place ≡ flag flags place
 
 -- the place within the word alone counts
 same_within : (w : Word) (p q : ℕ) → p % 64 ≡ q % 64 → has w p ≡ has w q
@@ -48,6 +43,10 @@ module _ (w rest : Word) (place : ℕ) (none : (j : ℕ) → j < place → has w
 
   left_later : (p : ℕ) → has w p ≡ true → place < p % 64 → has rest p ≡ true
   left_later p on lt = without p ∙ ap (λ b. has w p && not b) (ne_eqb (p % 64) place (λ e. omega (arith, e))) ∙ and_true (has w p) ∙ on
+    where
+      and_true : (b : Bool) → (b && true) ≡ b
+      and_true true = refl
+      and_true false = refl
 
   not_left : (p : ℕ) → p % 64 ≡ place → has rest p ≡ false
   not_left p e = without p ∙ ap (λ b. has w p && not b) (eq-eqb (p % 64) place e) ∙ and_false (has w p)
@@ -58,122 +57,98 @@ module _ (w rest : Word) (place : ℕ) (none : (j : ℕ) → j < place → has w
 
   is_later : (p : ℕ) → has rest p ≡ true → (has w p ≡ true) × (place < p % 64)
   is_later p on =
-      let there = still_left w rest place without p on in (
+      let there = first (has w p) (not (p % 64 == place)) (sym (without p) ∙ on) in (
         there,
         elim (cases_eq (p % 64) place) [
           | inl e ↦ clash on (not_left p e)
           | inr d ↦ (let le = not_sooner p there in omega arith)
         ],
       )
+    where
+      first : (a b : Bool) → (a && b) ≡ true → a ≡ true
+      first true b e = refl
+      first false b e = e
 
-module _ (flags : List Bool) (from : ℕ) (cursor : Cursor) (few : length flags ≤ 4096) (at : IsBefore flags from cursor) where
+-- a walk begins with the first word
+pub begins : (flags : List Bool) (w : Word) → ShowsWord flags 0 w → StandsAt flags 0 (record { base = 0; rest = w })
+begins flags w shows = record {
+  aligned = refl;
+  rest = λ p own on. (omega arith, sym (shows p (omega (arith, own))) ∙ on);
+  behind = omega arith;
+  all = λ p le is_set. elim (cases_eq (word_of p) 0) [
+    | inl own ↦ inl (omega (arith, own), shows p own ∙ is_set)
+    | inr other ↦ inr (omega (arith, other))
+  ];
+}
+
+-- of a table without places
+pub begins_empty : (flags : List Bool) (w : Word) → word_count flags ≡ 0 → ((p : ℕ) → has w p ≡ false) → StandsAt flags 0 (record { base = 0; rest = w })
+begins_empty flags w empty blank = record {
+  aligned = refl;
+  rest = λ p own on. clash on (blank p);
+  behind = omega arith;
+  all = λ p le is_set. absurd (omega (arith, empty, below_set flags p is_set));
+}
+
+module _ (flags : List Bool) (from base : ℕ) (w : Word) (at : StandsAt flags from (record { base = base; rest = w })) where
   -- the next place is the first of the rest of the word
-  module _ (place i : ℕ) (rest : Word) (small : place < 64) (on : has cursor.rest place ≡ true)
-      (none : (j : ℕ) → j < place → has cursor.rest j ≡ false)
-      (without : (p : ℕ) → has rest p ≡ (has cursor.rest p && not (p % 64 == place)))
-      (is : i ≡ cursor.base + place) where
-    in_word : word_of i * 64 ≡ cursor.base
-    in_word = omega (arith, at.aligned)
+  module _ (place : ℕ) (rest : Word) (small : place < 64) (on : has w place ≡ true) (none : (j : ℕ) → j < place → has w j ≡ false)
+      (without : (p : ℕ) → has rest p ≡ (has w p && not (p % 64 == place))) where
+    in_rest : has w (base + place) ≡ true
+    in_rest = same_within w (base + place) place (omega (arith, at.aligned)) ∙ on
 
-    in_rest : has cursor.rest i ≡ true
-    in_rest = same_within cursor.rest i place (omega (arith, at.aligned)) ∙ on
+    here : (from ≤ base + place) × (flag flags (base + place) ≡ true)
+    here = at.rest (base + place) (omega (arith, at.aligned)) in_rest
 
-    here : (from ≤ i) × (flag flags i ≡ true)
-    here = at.rest i in_word in_rest
-
-    before : (j : ℕ) → from ≤ j → j < i → flag flags j ≡ false
+    before : (j : ℕ) → from ≤ j → j < base + place → flag flags j ≡ false
     before j le less = elim (on_or_off (flag flags j)) [
       | inl is_set ↦ elim (at.all j le is_set) [
-        | inl own ↦ absurd (omega (arith, own.0, not_sooner cursor.rest rest place none without j own.1))
-        | inr behind ↦ absurd (omega (arith, at.order (word_of j) i (omega (arith, below_set flags j is_set)) behind in_word in_rest))
+        | inl own ↦ absurd (omega (arith, own.0, not_sooner w rest place none without j own.1))
+        | inr later ↦ absurd (omega (arith, later))
       ]
       | inr off ↦ off
     ]
 
-    stands : StandsAt flags (i + 1) (record { later = cursor.later; base = cursor.base; rest = rest })
+    stands : StandsAt flags (base + place + 1) (record { base = base; rest = rest })
     stands = record {
-      few = λ len. record {
-        aligned = at.aligned;
-        rest = λ p own left. (let is_left = is_later cursor.rest rest place none without p left in
-            (omega (arith, own, at.aligned, is_left.1), (at.rest p own is_left.0).1));
-        later = λ k lt busy. (omega (arith, at.order k i lt busy in_word in_rest), (at.later k lt busy).1);
-        some = at.some;
-        order = λ k p lt busy own left. at.order k p lt busy own (is_later cursor.rest rest place none without p left).0;
-        all = λ p le is_set. elim (at.all p (omega (arith, here.0)) is_set) [
-          | inl own ↦ inl (own.0, left_later cursor.rest rest place none without p own.1 (omega (arith, own.0, at.aligned)))
-          | inr behind ↦ inr behind
-        ];
-      };
-      many = λ more. absurd (omega arith);
+      aligned = at.aligned;
+      rest = λ p own left. (let is_left = is_later w rest place none without p left in
+          (omega (arith, own, at.aligned, is_left.1), (at.rest p own is_left.0).1));
+      behind = omega arith;
+      all = λ p le is_set. elim (at.all p (omega (arith, here.0)) is_set) [
+        | inl own ↦ inl (own.0, left_later w rest place none without p own.1 (omega (arith, own.0, at.aligned)))
+        | inr later ↦ inr later
+      ];
     }
 
-    pub next_in_rest : (i < length flags) × (flag flags i ≡ true) × (places_from flags from ≡ i ∷ places_from flags (i + 1))
-        × StandsAt flags (i + 1) (record { later = cursor.later; base = cursor.base; rest = rest })
-    next_in_rest =
-        let lt = below_set flags i here.1 in
-        (lt, here.1, next_place flags from i here.0 lt here.1 before, stands)
+    pub next_in_word : (base + place < length flags) × (flag flags (base + place) ≡ true)
+        × (places_from flags from ≡ (base + place) ∷ places_from flags (base + place + 1))
+        × StandsAt flags (base + place + 1) (record { base = base; rest = rest })
+    next_in_word =
+        let lt = below_set flags (base + place) here.1 in
+        (lt, here.1, next_place flags from (base + place) here.0 lt here.1 before, stands)
 
   -- nothing is left of the word
-  module _ (blank : (p : ℕ) → has cursor.rest p ≡ false) where
-    behind : (p : ℕ) → from ≤ p → flag flags p ≡ true → has cursor.later (word_of p) ≡ true
-    behind p le is_set = elim (at.all p le is_set) [
-      | inl own ↦ clash own.1 (blank p)
-      | inr later ↦ later
-    ]
-
-    pub at_end : ((k : ℕ) → has cursor.later k ≡ false) → places_from flags from ≡ []
-    at_end none = no_place flags from (λ p le. elim (on_or_off (flag flags p)) [
-      | inl is_set ↦ clash (behind p le is_set) (none (word_of p))
+  module _ (blank : (p : ℕ) → has w p ≡ false) where
+    pub at_end : length flags ≤ base + 64 → places_from flags from ≡ []
+    at_end last = no_place flags from (λ p le. elim (on_or_off (flag flags p)) [
+      | inl is_set ↦ elim (at.all p le is_set) [
+        | inl own ↦ clash own.1 (blank p)
+        | inr later ↦ absurd (omega (arith, last, later, below_set flags p is_set))
+      ]
       | inr off ↦ off
     ])
 
-    -- the next place is the first of the next word
-    module _ (k place : ℕ) (w later rest : Word) (few_words : k < 64) (busy : has cursor.later k ≡ true)
-        (none_busy : (j : ℕ) → j < k → has cursor.later j ≡ false)
-        (without_busy : (p : ℕ) → has later p ≡ (has cursor.later p && not (p % 64 == k)))
-        (shows : ShowsWord flags k w) (small : place < 64) (on : has w place ≡ true)
-        (none : (j : ℕ) → j < place → has w j ≡ false)
-        (without : (p : ℕ) → has rest p ≡ (has w p && not (p % 64 == place))) where
-      shown_here : flag flags (k * 64 + place) ≡ true
-      shown_here = sym (shows (k * 64 + place) (omega arith)) ∙ same_within w (k * 64 + place) place (omega arith) ∙ on
-
-      behind_it : (p : ℕ) → from ≤ p → flag flags p ≡ true → (has cursor.later (word_of p) ≡ true) × (k ≤ word_of p) × (word_of p < 64)
-      behind_it p le is_set =
-          let there = behind p le is_set in
-          let lt : word_of p < 64 = omega (arith, below_set flags p is_set) in
-          (there, omega (arith, not_sooner cursor.later later k none_busy without_busy (word_of p) there), lt)
-
-      before_it : (j : ℕ) → from ≤ j → j < k * 64 + place → flag flags j ≡ false
-      before_it j le less = elim (on_or_off (flag flags j)) [
-        | inl is_set ↦ (let more = (behind_it j le is_set).1 in
-            let same : word_of j ≡ k = omega arith in
-            absurd (omega (arith, not_sooner w rest place none without j (shows j same ∙ is_set))))
-        | inr off ↦ off
-      ]
-
-      stands_behind : StandsAt flags (k * 64 + place + 1) (record { later = later; base = k * 64; rest = rest })
-      stands_behind = record {
-        few = λ len. record {
-          aligned = omega arith;
-          rest = λ p own left. (let is_left = is_later w rest place none without p left in
-              let same : word_of p ≡ k = omega arith in
-              (omega (arith, is_left.1), sym (shows p same) ∙ is_left.0));
-          later = λ j lt left. (let is_left = is_later cursor.later later k none_busy without_busy j left in
-              (omega (arith, is_left.1), (at.later j lt is_left.0).1));
-          some = λ j lt left. at.some j lt (is_later cursor.later later k none_busy without_busy j left).0;
-          order = λ j p lt left own there. omega (arith, (is_later cursor.later later k none_busy without_busy j left).1);
-          all = λ p le is_set. (let more = behind_it p (omega (arith, (at.later k few_words busy).0)) is_set in
-              elim (cases_eq (word_of p) k) [
-                | inl same ↦ inl (ap (λ n. n * 64) same, left_later w rest place none without p (shows p same ∙ is_set) (omega arith))
-                | inr other ↦ inr (left_later cursor.later later k none_busy without_busy (word_of p) more.0 (omega (arith, more.1, more.2)))
-              ]);
-        };
-        many = λ more. absurd (omega arith);
-      }
-
-      pub next_behind : (k * 64 + place < length flags) × (flag flags (k * 64 + place) ≡ true)
-          × (places_from flags from ≡ (k * 64 + place) ∷ places_from flags (k * 64 + place + 1))
-          × StandsAt flags (k * 64 + place + 1) (record { later = later; base = k * 64; rest = rest })
-      next_behind =
-          let lt = below_set flags (k * 64 + place) shown_here in
-          (lt, shown_here, next_place flags from (k * 64 + place) (omega (arith, (at.later k few_words busy).0)) lt shown_here before_it, stands_behind)
+    pub next_word : (next : Word) → ShowsWord flags ((base + 64) / 64) next → StandsAt flags from (record { base = base + 64; rest = next })
+    next_word next shows = record {
+      aligned = omega (arith, at.aligned);
+      rest = λ p own on. (omega (arith, own, at.behind), sym (shows p (omega (arith, own, at.aligned))) ∙ on);
+      behind = omega (arith, at.behind);
+      all = λ p le is_set. elim (at.all p le is_set) [
+        | inl own ↦ clash own.1 (blank p)
+        | inr later ↦ elim (cases_eq (word_of p * 64) (base + 64)) [
+          | inl same ↦ inl (same, shows p (omega (arith, same)) ∙ is_set)
+          | inr other ↦ inr (omega (arith, later, other, at.aligned))
+        ]
+      ];
+    }

@@ -6,8 +6,5 @@ mod Has
 mod Apart
 mod Same
 pub mod Wordwise
-mod Summaries
-mod Summed
-mod Firsts
 pub mod Fewer
 mod Cursors

@@ -1,7 +1,6 @@
 -- Words, each of which holds the flags of 64 places that follow each other.
-use Rattle.std.specs.Prelude.{ℕ, ◌≡◌, ◌<◌, ◌≤◌, ◌/◌, ◌%◌, ◌==◌, Bool, false, cond, List, length}
+use Rattle.std.specs.Prelude.{ℕ, ◌≡◌, ◌<◌, ◌≤◌, ◌/◌, ◌%◌, ◌==◌, Bool, cond, List, length}
 use Rattle.std.specs.Int.{bit_at, div_ceil}
-use Rattle.sfc_flags.specs.Flags.{flag}
 use Rattle.sfc_flags.specs.declared.word.Word.{Word}
 
 -- the flag that a word has for a place of the table; the place within the word alone counts
@@ -15,10 +14,6 @@ word_count flags = div_ceil (length flags) 64
 -- which word holds the flag of a place
 abbrev pub word_of : ℕ → ℕ
 word_of place = place / 64
-
--- no place of this word has its flag
-abbrev pub IsBlank : List Bool → ℕ → Type 0
-IsBlank flags number = (place : ℕ) → word_of place ≡ number → flag flags place ≡ false
 
 -- ---- work from word to word, where rows tell what each place has
 

@@ -2,13 +2,11 @@
 
 use crate::word::Word;
 
-/// A place between the set places of a table: those of one word behind it, and the words behind that one that have some.
+/// A place between the set places of a table: behind it are those that are left of one word, and those of the words behind that one.
 #[derive(Clone, Copy)]
 pub struct Cursor {
-    // the words behind that of `rest` that have a flag, by number
-    pub(crate) later: Word,
-    // the first place of the word of `rest`; where a table has more words than a summary, where the walk stands
+    // the first place of the word that the walk has in hand
     pub(crate) base: usize,
-    // the flags of a word that the walk has yet to pass
+    // those of its flags that the walk has yet to pass
     pub(crate) rest: Word,
 }

@@ -2,10 +2,12 @@
 
 ghost use Rattle.std.specs.Prelude.{◌≡◌, ◌≢◌, ◌==◌, ◌<◌, ◌≤◌, ◌^◌, ◌||◌, ◌&&◌, ◌↔◌, ◌∷◌, ◌+◌, ◌-◌, [], ℕ, List, Bool, not, true, false, cond, length, replicate, slice_set, IfOk, IfSome, None};
 ghost use Rattle.sfc_base.specs.Ticks.{Within};
+ghost use Rattle.sfc_flags.specs.Cursors.{StandsAt};
 ghost use Rattle.sfc_flags.specs.Flags.{flag, places_from, places_passed};
 ghost use Rattle.sfc_flags.specs.Words.{has, word_count, word_of};
 ghost use Rattle.sfc_flags.specs.Private.Bits.{flags_of, IsFlags};
 
+use crate::cursor::Cursor;
 use crate::word::Word;
 use crate::words;
 use sfc_base::ticks::Ticks;
@@ -158,6 +160,44 @@ impl Flags {
         } else {
             None
         }
+    }
+
+    /// The beginning of a walk over all set places.
+    #[inline(always)]
+    pub fn start(&self) -> Cursor
+        ensures { StandsAt self.now 0 result }
+    {
+        let rest = if self.words() > 0 {
+            self.word(0)
+        } else {
+            Word::none()
+        };
+        Cursor { base: 0, rest }
+    }
+
+    /// The next set place of a walk, and where the walk stands then.
+    #[inline(always)]
+    pub fn next(&self, cursor: Cursor) -> Option<(usize, Cursor)>
+        ensures some { (from : ℕ) → StandsAt self.now from cursor → IfSome result (λ p. (p.0 < length self.now) × (flag self.now p.0 ≡ true)
+            × (places_from self.now from ≡ p.0 ∷ places_from self.now (p.0 + 1)) × StandsAt self.now (p.0 + 1) p.1) }
+        ensures none { (from : ℕ) → StandsAt self.now from cursor → result ≡ None → places_from self.now from ≡ [] }
+    {
+        let count = self.count;
+        let mut at = cursor;
+        'words: while at.rest.is_none() {
+            let base = at.base.saturating_add(64);
+            if base >= count {
+                return None;
+            }
+            at = Cursor {
+                base,
+                rest: self.word(base / 64),
+            };
+        }
+        let Cursor { base, rest } = at;
+        let (place, rest) = rest.split_first()?;
+        // It wraps only where the cursor isn't one of this table.
+        Some((base.wrapping_add(place), Cursor { base, rest }))
     }
 
     /// The first place from `from` on at which the two tables differ. A walk over all these places, each time from the

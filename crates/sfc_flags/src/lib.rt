@@ -5,8 +5,6 @@
 pub mod cursor;
 /// the table, one flag for each place
 pub mod flags;
-/// a table of flags of which few are set
-pub mod sparse_flags;
 /// the flags of 64 places at once
 pub mod word;
 // bits in a slice of words

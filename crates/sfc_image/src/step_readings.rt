@@ -5,13 +5,13 @@ ghost use Rattle.sfc_base.specs.Instants.{AreInstants};
 
 use sfc_base::instants::time_since;
 use sfc_base::references::StepId;
-use sfc_flags::sparse_flags::SparseFlags;
+use sfc_flags::flags::Flags;
 
 /// Which steps are active, and by the steps' numbers when each was last activated and the time that it kept when it was left, as they are
 /// read at an instant: in microseconds, and instants from 0 to 2^62.
 #[derive(Clone, Copy)]
 pub struct StepReadings<'a> {
-    pub active: &'a SparseFlags,
+    pub active: &'a Flags,
     pub since: &'a [i64],
     pub held_times: &'a [i64],
     pub at: i64,

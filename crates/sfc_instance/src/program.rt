@@ -13,7 +13,6 @@ use sfc_base::ids::{ActionNumber, TransitionId};
 use sfc_base::references::StepId;
 use sfc_base::ticks::Ticks;
 use sfc_flags::flags::Flags;
-use sfc_flags::sparse_flags::SparseFlags;
 use sfc_image::image::Image;
 use sfc_image::step_readings::StepReadings;
 use sfc_tables::tables::Tables;
@@ -162,7 +161,7 @@ impl Program {
     }
 
     /// Which steps are active, by number.
-    pub(crate) fn active_flags(&self) -> &SparseFlags
+    pub(crate) fn active_flags(&self) -> &Flags
         ensures len { length result.now ≡ step_total self.now }
         ensures flags { (tables : Tabled) (instance_state : InstanceState) → ProgramAgrees tables self.now instance_state →
             result.now ≡ active_steps tables (evolution_rows tables instance_state.life) }
@@ -171,7 +170,7 @@ impl Program {
     }
 
     /// Which transitions the latest scan cleared, by number (2.6.5).
-    pub(crate) fn cleared_flags(&self) -> &SparseFlags
+    pub(crate) fn cleared_flags(&self) -> &Flags
         ensures len { length result.now ≡ transition_total self.now }
         ensures each { (tables : Tabled) (instance_state : InstanceState) (tr : ℕ) → tr < transition_total self.now →
             ProgramAgrees tables self.now instance_state → flag result.now tr ≡ answers.is_transition_cleared tables instance_state tr }
@@ -189,7 +188,7 @@ impl Program {
     }
 
     /// Which actions the latest scan executed, by number: their A (2.6.4.5).
-    pub(crate) fn executed_flags(&self) -> &SparseFlags
+    pub(crate) fn executed_flags(&self) -> &Flags
         ensures len { length result.now ≡ action_total self.now }
         ensures each { (tables : Tabled) (instance_state : InstanceState) (action : ℕ) → action < action_total self.now →
             ProgramAgrees tables self.now instance_state →

@@ -13,7 +13,6 @@ use sfc_base::references::{StepId, Variable};
 use sfc_base::value::Value;
 use sfc_expr::view::View;
 use sfc_flags::flags::Flags;
-use sfc_flags::sparse_flags::SparseFlags;
 use sfc_image::image::Image;
 use sfc_image::step_readings::StepReadings;
 use sfc_image::view::ImageView;
@@ -122,7 +121,7 @@ impl<'a> ProgramView<'a> {
     }
 
     /// Which steps are active, by number (2.6.2).
-    pub fn active_flags(&self) -> &'a SparseFlags
+    pub fn active_flags(&self) -> &'a Flags
         ensures len { length result.now ≡ length (tables_in self.now).initial }
         ensures each { (changes : List Change) (instance_state : InstanceState) (s : ℕ) → s < length (tables_in self.now).initial →
             Shows self.now changes instance_state → flag result.now s ≡ answers.is_step_active (tables_in self.now) instance_state s }
@@ -131,7 +130,7 @@ impl<'a> ProgramView<'a> {
     }
 
     /// Which transitions the latest scan cleared, by number (2.6.5).
-    pub fn cleared_flags(&self) -> &'a SparseFlags
+    pub fn cleared_flags(&self) -> &'a Flags
         ensures len { length result.now ≡ length (tables_in self.now).sides }
         ensures each { (changes : List Change) (instance_state : InstanceState) (tr : ℕ) → tr < length (tables_in self.now).sides →
             Shows self.now changes instance_state →
@@ -150,7 +149,7 @@ impl<'a> ProgramView<'a> {
     }
 
     /// Which actions the latest scan executed, by number: their A (2.6.4.5).
-    pub fn executed_flags(&self) -> &'a SparseFlags
+    pub fn executed_flags(&self) -> &'a Flags
         ensures len { length result.now ≡ length (tables_in self.now).actions }
         ensures each { (changes : List Change) (instance_state : InstanceState) (action : ℕ) → action < length (tables_in self.now).actions →
             Shows self.now changes instance_state →

@@ -4,20 +4,20 @@ ghost use Rattle.std.specs.Prelude.{◌≡◌, OnOk};
 
 use crate::kept_text::KeptText;
 use sfc_base::ticks::Ticks;
-use sfc_flags::sparse_flags::SparseFlags;
+use sfc_flags::flags::Flags;
 use std::alloc::{AllocError, Global};
 
 /// Which transitions a scan cleared, and which actions it executed, by their numbers.
 #[derive(Clone, Copy)]
 pub struct Sets<'a> {
-    pub cleared: &'a SparseFlags,
-    pub executed: &'a SparseFlags,
+    pub cleared: &'a Flags,
+    pub executed: &'a Flags,
 }
 
 /// What a scan did, and the text of that; or nothing, where the text is empty.
 pub struct Effects {
-    cleared: SparseFlags,
-    executed: SparseFlags,
+    cleared: Flags,
+    executed: Flags,
     text: KeptText,
 }
 
@@ -33,11 +33,11 @@ impl Drop for Effects {
 }
 
 // Takes over a set, whatever size it has.
-fn take_over(alloc: Global, kept: &mut SparseFlags, flags: &SparseFlags) -> Result<(), AllocError>
+fn take_over(alloc: Global, kept: &mut Flags, flags: &Flags) -> Result<(), AllocError>
     ensures { OnOk result (kept.new ≡ flags.now) }
 {
     if kept.count() != flags.count() {
-        *kept = SparseFlags::new(alloc, flags.count())?;
+        *kept = Flags::new(alloc, flags.count())?;
     }
     let mut ticks = Ticks::new();
     kept.copy_from(flags, &mut ticks);
@@ -55,8 +55,8 @@ impl Effects {
         ensures { (space : Space) (tables : Tabled) → IfOk result (λ effects. IsRight space tables effects) }
     {
         Ok(Effects {
-            cleared: SparseFlags::new(alloc, 0)?,
-            executed: SparseFlags::new(alloc, 0)?,
+            cleared: Flags::new(alloc, 0)?,
+            executed: Flags::new(alloc, 0)?,
             text: KeptText::none(),
         })
     }

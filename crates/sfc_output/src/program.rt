@@ -28,7 +28,7 @@ use crate::sfc_tables::tables::Tables;
 use sfc_base::ids::ActionNumber;
 use sfc_base::references::StepId;
 use sfc_base::ticks::Ticks;
-use sfc_flags::sparse_flags::SparseFlags;
+use sfc_flags::flags::Flags;
 use sfc_page::line::Line;
 use sfc_plant::names::Names;
 use std::alloc::AllocError;
@@ -105,7 +105,7 @@ fn number_of(transition: usize) -> u64
 
 // The numbers of the cleared transitions.
 #[inline(always)]
-fn put_cleared(line: &mut Line, out: &mut Vec<u8>, cleared: &SparseFlags) -> Result<(), AllocError>
+fn put_cleared(line: &mut Line, out: &mut Vec<u8>, cleared: &Flags) -> Result<(), AllocError>
     ensures { OnOk result (written out.new.items line.new ≡
         written out.old.items line.old ++ listed (map output.transition_text (places_from cleared.now 0))) }
 {
@@ -127,7 +127,7 @@ fn put_executed(
     out: &mut Vec<u8>,
     tables: &Tables,
     names: &Names<'_>,
-    executed: &SparseFlags,
+    executed: &Flags,
 ) -> Result<(), AllocError>
     requires { length executed.now ≡ length tables.now.actions }
     ensures { OnOk result (written out.new.items line.new ≡

@@ -17,22 +17,22 @@ use crate::sfc_instance::program_view::ProgramView;
 use sfc_base::ids::ProgId;
 use sfc_base::ticks::Ticks;
 use sfc_events::command::Answer;
-use sfc_flags::sparse_flags::SparseFlags;
+use sfc_flags::flags::Flags;
 use std::alloc::{AllocError, Global};
 
 /// The active steps of a program, the transitions that its latest scan cleared, and the actions that it executed.
 #[derive(Drop)]
 struct Shot {
-    active: SparseFlags,
-    cleared: SparseFlags,
-    executed: SparseFlags,
+    active: Flags,
+    cleared: Flags,
+    executed: Flags,
 }
 
 // The same flags once more.
-fn copy_of(alloc: Global, flags: &SparseFlags) -> Result<SparseFlags, AllocError>
+fn copy_of(alloc: Global, flags: &Flags) -> Result<Flags, AllocError>
     ensures { IfOk result (λ copy. copy ≡ flags.now) }
 {
-    let mut copy = SparseFlags::new(alloc, flags.count())?;
+    let mut copy = Flags::new(alloc, flags.count())?;
     copy.copy_from(flags, &mut Ticks::new());
     Ok(copy)
 }

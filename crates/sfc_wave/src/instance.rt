@@ -69,7 +69,7 @@ fn append_step(said: &mut Vec<u8>, names: &Names<'_>, step: usize) -> Result<(),
 /// The one error is that memory was refused.
 pub fn say_active(said: &mut Vec<u8>, view: &ProgramView<'_>) -> Result<(), AllocError> {
     let names = view.plant().names(view.instance());
-    let active = view.active_flags().flags();
+    let active = view.active_flags();
     let ticks = &mut Ticks::new();
     let mut from = 0;
     said.clear();

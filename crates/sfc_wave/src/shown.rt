@@ -90,9 +90,9 @@ impl Shown {
 
     /// The instance is shown as it stands, and its variables needn't have the Q of their actions.
     pub fn keep(&mut self, view: &ProgramView<'_>) {
-        copy(&mut self.active, view.active_flags().flags());
+        copy(&mut self.active, view.active_flags());
         copy(&mut self.q, view.q_flags());
-        copy(&mut self.executed, view.executed_flags().flags());
+        copy(&mut self.executed, view.executed_flags());
         self.is_settled = false;
     }
 
@@ -120,7 +120,7 @@ impl Shown {
 
     /// Whether the latest scan of the instance executed a body.
     pub fn has_body(&self, view: &ProgramView<'_>) -> bool {
-        let executed = view.executed_flags().flags();
+        let executed = view.executed_flags();
         executed
             .next_set(self.first_body, &mut Ticks::new())
             .is_some()
@@ -130,7 +130,7 @@ impl Shown {
     pub fn next_step(&self, view: &ProgramView<'_>, from: usize) -> Option<usize> {
         let ticks = &mut Ticks::new();
         nearer(
-            view.active_flags().flags().next_set(from, ticks),
+            view.active_flags().next_set(from, ticks),
             self.active.next_set(from, ticks),
         )
     }
@@ -142,7 +142,7 @@ impl Shown {
 
     /// The first action from this one on whose A isn't what was shown last.
     pub fn next_executed(&self, view: &ProgramView<'_>, from: usize) -> Option<usize> {
-        next_difference(view.executed_flags().flags(), &self.executed, from)
+        next_difference(view.executed_flags(), &self.executed, from)
     }
 
     /// The first action from this one on whose Q may be another than its variable had.
