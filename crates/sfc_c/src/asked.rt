@@ -5,13 +5,13 @@ ghost use Rattle.sfc_replay.specs.sfc_debug.Agreement.{table_of};
 ghost use Rattle.sfc_replay.specs.sfc_debug.Steered.{steered_by};
 ghost use Rattle.sfc_c.specs.Lines as lines;
 
-use crate::same::is_same;
 use crate::sfc_debug::break_condition::BreakCondition;
 use crate::sfc_debug::debugger::Debugger;
 use crate::sfc_debug::timed::Timed;
 use crate::sfc_script::script::{ScriptError, read_script};
 use sfc_base::ids::ProgId;
 use sfc_events::command::{Command, CondId, Point};
+use sfc_expr::same::is_same;
 use std::alloc::Global;
 
 /// How many numbers of conditions there are.

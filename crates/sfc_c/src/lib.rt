@@ -2,8 +2,7 @@
 //!
 //! - `life`: opening, closing and checking; `opening`, `fault`: texts to debuggers, and why a text is none.
 //! - `commands`: commands by number; `reply`, `point`: what C reads of answers and points.
-//! - `scripting`: lines of scripts, and the image as text; `asked`: what a line asks; `obeying`: what is done for it; `same`: expressions
-//!   that are the same.
+//! - `scripting`: lines of scripts, and the image as text; `asked`: what a line asks; `obeying`: what is done for it.
 //! - `finding`: numbers by names; `locating`: variables by locations; `naming`: counts and names; `kind`: what has a name.
 //! - `reading`: what is read without a command; `placed`: where a fault is; `showing`: steps, transitions and actions; `image`: all
 //!   variables; `tasks`: tasks.
@@ -43,7 +42,6 @@ pub mod plc;
 mod point;
 pub mod reading;
 pub mod reply;
-mod same;
 pub mod saved;
 pub mod saving;
 mod scanning;

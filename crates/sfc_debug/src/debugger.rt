@@ -375,8 +375,9 @@ impl Debugger {
         self.command(command, raw, &mut ticks)
     }
 
-    // One more condition in the table, behind all others.
-    fn add_condition(&mut self, condition: BreakCondition) -> Result<(), AllocError>
+    /// One more condition in the table, behind all others, which no breakpoint waits for yet. The one error is that memory was refused, and
+    /// then the condition is given up.
+    pub fn add_condition(&mut self, condition: BreakCondition) -> Result<(), AllocError>
         ensures plant { plant_of self.new ≡ plant_of self.old }
         ensures mask { mask_of self.new ≡ mask_of self.old }
         ensures capacity { capacity_of self.new ≡ capacity_of self.old }
@@ -529,6 +530,13 @@ impl Debugger {
             Some(entry) => Some((entry.program, entry.condition.expr())),
             None => None,
         }
+    }
+
+    /// The table of conditions.
+    pub fn conditions(&self) -> &[BreakCondition]
+        ensures { result.now ≡ table_of self.now }
+    {
+        &self.conditions
     }
 
     /// Puts into the opening what the commands so far leave for later ones. It takes no memory.

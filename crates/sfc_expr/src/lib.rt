@@ -8,6 +8,7 @@
 //! - `laws`: what holds of the definitions themselves.
 //! - `number`: arithmetic within the range of a type.
 //! - `operate`: operators on values.
+//! - `same`: expressions that are the same.
 //! - `store`: what statements write to; `view`: what expressions read.
 #![tactic(auto)]
 
@@ -19,6 +20,7 @@ pub mod laws;
 pub mod number;
 mod operate;
 pub mod operator;
+pub mod same;
 pub mod statement;
 pub mod store;
 pub mod view;

@@ -2,6 +2,7 @@
 
 use sfc_expr::expr::Expr;
 use sfc_expr::statement::Statement;
+use std::alloc::{AllocError, Global};
 use std::marker::Model;
 
 /// The condition of a transition (2.6.3). Contracts see its typed tree.
@@ -56,7 +57,7 @@ impl Model for Statements {
     ghost view = { λ body. body_of body.statements.items };
 }
 
-ghost use Rattle.std.specs.Prelude.{◌≡◌};
+ghost use Rattle.std.specs.Prelude.{◌≡◌, IfOk};
 ghost use Rattle.sfc_expr.specs.Trees.{expression_of, body_of};
 
 impl Condition {
@@ -72,6 +73,15 @@ impl Condition {
         ensures { expression_of result.now ≡ self.now }
     {
         &self.expr
+    }
+
+    /// The same condition once more. The one error is that memory was refused.
+    pub fn copy(&self, alloc: Global) -> Result<Condition, AllocError>
+        ensures { IfOk result (λ copy. copy ≡ self.now) }
+    {
+        Ok(Condition {
+            expr: self.expr.copy(alloc)?,
+        })
     }
 }
 

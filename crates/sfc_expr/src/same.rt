@@ -3,11 +3,11 @@
 ghost use Rattle.std.specs.Prelude.{◌≡◌, true, false};
 ghost use Rattle.sfc_expr.specs.Trees.{expression_of, Literal, Read, StepActive, StepTime, ActionQ, Not, Minus, Binary};
 
+use crate::expr::Expr;
+use crate::operator::Operator;
 use sfc_base::references::{StepId, Variable};
 use sfc_base::value::Value;
 use sfc_base::var_type::VarType;
-use sfc_expr::expr::Expr;
-use sfc_expr::operator::Operator;
 
 // Whether the expression is this literal.
 fn is_literal(e: &Expr, value: Value) -> bool
