@@ -26,6 +26,7 @@ pub mod Keeping
 pub mod Pasts
 -- what a longer table of conditions changes: nothing
 pub mod Longer
+pub mod LongerAccepted
 -- ---- what the definitions give at single moments of small plants, worked out by hand
 
 -- how commands are written

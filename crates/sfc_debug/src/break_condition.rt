@@ -55,13 +55,17 @@ pub fn are_same(table: &[BreakCondition], other: &[BreakCondition]) -> bool
     ensures same { result ≡ true → table.now ≡ other.now }
     ensures other { result ≡ false → table.now ≡ other.now → ⊥ }
 {
-    if table.len() != other.len() {
-        return false;
-    }
-    for (one, its) in table.iter().zip(other) {
+    let mut rest = table;
+    let mut others = other;
+    'conditions: while let Some((one, behind)) = rest.split_first() {
+        let Some((its, theirs)) = others.split_first() else {
+            return false;
+        };
         if !one.is_same(its) {
             return false;
         }
+        rest = behind;
+        others = theirs;
     }
-    true
+    others.is_empty()
 }

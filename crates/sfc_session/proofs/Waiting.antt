@@ -1,5 +1,5 @@
 -- A breakpoint with a condition that joins the table.
-use Rattle.std.proofs.Common.{◌≡◌, ◌∙◌, refl, sym, ap, subst, ℕ, ◌+◌, ◌<◌, ◌≤◌, ◌^◌, arith, nat_lt, cond, Bool, true, false, List, [], ◌∷◌, ◌++◌, length, Result, Ok, Err, ℤ, rules}
+use Rattle.std.proofs.Common.{◌≡◌, ◌∙◌, refl, sym, ap, subst, ℕ, ◌+◌, ◌<◌, ◌≤◌, arith, nat_lt, cond, Bool, true, false, List, [], ◌∷◌, ◌++◌, length, Result, Ok, Err, ℤ, rules}
 use Rattle.std.proofs.lemmas.Bool.Decides.{nat_tests}
 use Rattle.std.proofs.lemmas.List.{length-append}
 use Rattle.std.specs.Prelude.{IfOk, OnOk, OnErr, is_ok, reverse}
@@ -19,7 +19,8 @@ use Rattle.sfc_output.specs.Output.{Verdict, debugger_of, text_of}
 use Rattle.sfc_session.specs.declared.session.Session.{Session}
 use Rattle.sfc_session.specs.Sessions.{HasSaid, count_in, debugger_in, history_lines, instant_in, rows_after, rows_in, rows_of, steered_in, with_lines}
 use Rattle.sfc_session.specs.Sessions.{lines_by, steered_after, waiting, waiting_verdict, with_one_more}
-use Rattle.sfc_session.proofs.Longer.{accepted_longer, history_same, rows_same}
+use Rattle.sfc_output.proofs.of_sfc_debug.LongerAccepted.{accepted_longer, rows_same}
+use Rattle.sfc_session.proofs.Longer.{history_same}
 use Rattle.sfc_session.proofs.Saying.{row_more}
 
 -- ---- the debugger

@@ -2,7 +2,7 @@ use Rattle.std.proofs.Common.{rules, length, w64, SFits, to_z-of_z}
 use Rattle.sfc_replay.specs.sfc_debug.Agreement.{table_of}
 use Rattle.sfc_replay.specs.sfc_debug.Steered.{steered_by}
 use Rattle.sfc_session.specs.Sessions.{waiting}
-use Rattle.sfc_session.proofs.Longer.{named}
+use Rattle.sfc_replay.proofs.of_sfc_debug.LongerAccepted.{named}
 use Rattle.sfc_session.proofs.Waiting.{numbered, agrees_by}
 use Rattle.sfc_c.proofs.plc.obey_break.Goals as goal
 
