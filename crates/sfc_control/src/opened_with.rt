@@ -14,7 +14,7 @@ pub trait OpenedWith: Ledger {
     /// The plant that the debugger steers.
     ghost plant: { PlantData };
 
-    /// Its conditions of breakpoints.
+    /// The conditions of breakpoints with which its table begins.
     ghost table: { List BreakCondition };
 
     /// Which commands have rows in the feed.
