@@ -74,12 +74,13 @@ pub record IsCalled {X : Type 0} (plant : PlantData) (table : List BreakConditio
   pub put : Puts es command (given old) (given new) answer
   pub held : IfOk answer (λ receipt. first_held new ≡ max (first_held old) (first_after command (first_in es) receipt.index))
 
--- What a call does after these entries whose condition joins the table: it stands behind all others, and the breakpoint that waits for it is
--- called. A table of 65,535 conditions takes no more, and the breakpoint's number is that of none; with a longer one nothing is called. So what
--- is accepted waits for the condition that was given.
+-- What a call does after these entries whose condition joins the table: the condition stands behind all others, and the breakpoint that
+-- waits for it is called. A table of 65,535 conditions takes no more, and the breakpoint's number is that of none; with a longer one nothing
+-- is called. So what is accepted waits for the condition that was given.
 pub record IsCalledWhen {X : Type 0} (plant : PlantData) (table : List BreakCondition) (limit : ℕ) (es : List Entry)
     (point : Point) (condition : BreakCondition) (raw : ℤ) (old new : Seat X) (answer : Result Receipt CallError) : Type 0 where
-  pub joins : length table < 65535 → IsCalled plant (with_condition table condition) limit es (break_when table point condition) raw old new answer
+  pub joins : length table < 65535 →
+      IsCalled plant (with_condition table condition) limit es (break_when table point condition) raw old new answer
   pub full : length table ≡ 65535 → IsCalled plant table limit es (break_when table point condition) raw old new answer
   pub longer : 65535 < length table → answer ≡ Err (Refused NoSuchCondition)
   pub accepted : OnOk answer (length table < 65535)

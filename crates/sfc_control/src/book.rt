@@ -111,9 +111,9 @@ impl Book {
         self.history.reserve(n)
     }
 
-    /// One more condition in the table, behind all others, which no breakpoint waits for yet; nothing else changes. What was answered stays the
-    /// verdict with the longer table, since accepted commands name conditions of the shorter one alone. The one error is that memory was refused,
-    /// and then the condition is given up.
+    /// One more condition in the table, behind all others, which no breakpoint waits for yet; nothing else changes. What was answered stays
+    /// the verdict with the longer table, since accepted commands name conditions of the shorter one alone. The one error is that memory was
+    /// refused: then the book is as it was, and the condition is given up.
     pub fn add_condition(&mut self, condition: BreakCondition) -> Result<(), AllocError>
         ensures plant { plant self.new ≡ plant self.old }
         ensures mask { mask self.new ≡ mask self.old }

@@ -122,8 +122,8 @@ impl<L: OpenedWith> Controller<L> {
     }
 
     /// Puts into the opening what all commands leave for later ones that were accepted so far, where the table of the book has just these
-    /// conditions; how many commands they are. Else the answer is `None`, and the opening stays as it was. It waits for the lock, and takes no
-    /// memory.
+    /// conditions; how many commands they are. Else the answer is `None`, and the opening stays as it was. It waits for the lock, and takes
+    /// no memory.
     pub fn save<R: Wait>(
         &self,
         rt: &R,

@@ -33,8 +33,8 @@ impl<L: OpenedWith> Locked<L> {
     ghost use Rattle.sfc_control.specs.Books.{entries};
     ghost use Rattle.sfc_control.specs.Lock.{book_of, total_of};
 
-    // The breakpoint that waits for the condition, which joins the table behind all others. A table of 65,535 conditions takes no more: then
-    // the condition is given up, and its number is that of none. The one error is that memory was refused, and then all is as it was.
+    // The breakpoint that waits for the condition, which joins the table behind all others. A table of 65,535 conditions takes no more:
+    // then the condition is given up, and its number is that of none. The one error is that memory was refused, and then all is as it was.
     pub(crate) fn waiting(
         &mut self,
         point: Point,
@@ -52,9 +52,10 @@ impl<L: OpenedWith> Locked<L> {
     {
         let place = self.book.conditions().len();
         let command = Command::BreakIf(condition.program, point, CondId(place as u16));
-        if place < MOST {
-            self.book.add_condition(condition)?;
+        if place >= MOST {
+            return Ok(command);
         }
+        self.book.add_condition(condition)?;
         Ok(command)
     }
 }

@@ -170,14 +170,14 @@ impl<L: OpenedWith> Seat<L> {
         answer
     }
 
-    /// A breakpoint that waits for a condition: under the lock of the seat's controller the condition joins the table, behind all others, and
-    /// then the command `BreakIf` of it is entered at the instant that the clock reads once the lock is held. It waits for the lock. Then the
-    /// bells are rung that the call concerns.
+    /// A breakpoint that waits for a condition: under the lock of the seat's controller the condition joins the table, behind all others,
+    /// and then the command `BreakIf` of it is entered, at the instant that the clock reads once the lock is held. It waits for the lock.
+    /// Then the bells are rung that the call concerns.
     ///
-    /// What is refused leaves its condition in the table, where no breakpoint names it: so the table only grows. A table of 65,535 conditions
-    /// takes no more: then the command is entered with the number 65,535, which is that of no condition, and is refused in its turn. With a
-    /// longer one, as a debugger may be handed in with, nothing is entered, and the answer is `NoSuchCondition`. The one error is that memory
-    /// was refused: then the clock was read, and all else is as it was.
+    /// What is refused leaves its condition in the table, where no breakpoint names it: so the table only grows. A table of 65,535
+    /// conditions takes no more: then the command is entered with the number 65,535, which is that of no condition, and is refused in its
+    /// turn. With a longer table, which a debugger may be handed in with, nothing is entered, and the answer is `NoSuchCondition`. The one
+    /// error is that memory was refused: then the clock was read, and all else is as it was.
     pub fn break_when<R: Wait, C: Clock>(
         &mut self,
         rt: &R,
@@ -203,9 +203,9 @@ impl<L: OpenedWith> Seat<L> {
         if locked.book.conditions().len() > MOST {
             return Ok(Err(CallError::Refused(Refusal::NoSuchCondition)));
         }
-        let command = locked.waiting(point, condition)?;
-        let answer = self.enter(&mut locked, command, raw);
-        controller.bells.mark(&locked.book, command, &answer);
+        let breakpoint = locked.waiting(point, condition)?;
+        let answer = self.enter(&mut locked, breakpoint, raw);
+        controller.bells.mark(&locked.book, breakpoint, &answer);
         drop(locked);
         controller.bells.ring();
         Ok(answer)
