@@ -1,7 +1,11 @@
 -- What a console keeps of a call.
 use Rattle.std.specs.Prelude.{◌≡◌, ◌+◌, ◌⊎◌, [], ◌∷◌, ◌++◌, Result, Ok, Err, ⊤}
 use Rattle.std.specs.declared.alloc.AllocError.{AllocError}
+use Rattle.sfc_base.specs.declared.ids.ProgId.{ProgId}
 use Rattle.sfc_events.specs.declared.command.Command.{Command}
+use Rattle.sfc_events.specs.declared.command.Command.TheVariants.{BreakIf}
+use Rattle.sfc_events.specs.declared.command.CondId.{CondId}
+use Rattle.sfc_events.specs.declared.command.Point.{Point}
 use Rattle.sfc_control.specs.declared.call_error.CallError.{CallError}
 use Rattle.sfc_control.specs.declared.receipt.Receipt.{Receipt}
 use Rattle.sfc_control.specs.Seats.{number, calls}
@@ -14,6 +18,10 @@ module _ {X C : Type 0} where
       (receipt.seat ≡ number old.seat) × (receipt.command ≡ command)
       × (new.receipts.items ≡ old.receipts.items ++ receipt ∷ []) × (calls new.seat ≡ calls old.seat + 1)
   Keeps command old new (Err error) = (new.receipts.items ≡ old.receipts.items) × (new.seat ≡ old.seat)
+
+  -- the same of a breakpoint that waits for a condition, whatever number that has
+  abbrev pub KeepsWaiting : ProgId → Point → Console X C → Console X C → Result Receipt CallError → Type 0
+  KeepsWaiting program point old new answer = (id : CondId) × Keeps (BreakIf program point id) old new answer
 
   -- the receipt of the call that ends a session is kept where there is memory for it
   abbrev pub KeepsLast : Console X C → Console X C → Result Receipt CallError → Type 0
