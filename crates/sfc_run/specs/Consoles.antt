@@ -39,6 +39,15 @@ module _ {X C : Type 0} where
   abbrev pub IsKept : Console X C → Console X C → Type 0
   IsKept old new = (new.receipts.items ≡ old.receipts.items) × (new.seat ≡ old.seat) × (new.clock ≡ old.clock)
 
+  -- nothing was called, but the clock may have been read
+  abbrev pub IsSeatKept : Console X C → Console X C → Type 0
+  IsSeatKept old new = (new.receipts.items ≡ old.receipts.items) × (new.seat ≡ old.seat)
+
+  -- the same without memory
+  abbrev pub KeepsSeatOr : {A : Type 0} → Console X C → Console X C → Result A AllocError → Type 0
+  KeepsSeatOr old new (Ok answer) = ⊤
+  KeepsSeatOr old new (Err error) = IsSeatKept old new
+
   -- without memory nothing was called
   abbrev pub KeepsOr : {A : Type 0} → Console X C → Console X C → Result A AllocError → Type 0
   KeepsOr old new (Ok answer) = ⊤

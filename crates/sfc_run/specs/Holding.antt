@@ -13,7 +13,7 @@ use Rattle.sfc_control.specs.declared.call_error.CallError.{CallError}
 use Rattle.sfc_control.specs.declared.call_error.CallError.TheVariants.{Refused, AuditMismatch}
 use Rattle.sfc_control.specs.declared.entry.Entry.{Entry}
 use Rattle.sfc_control.specs.declared.receipt.Receipt.{Receipt}
-use Rattle.sfc_control.specs.Seats.{IsCalled, IsCalledWaiting}
+use Rattle.sfc_control.specs.Seats.{IsCalled, IsCalledWhen}
 use Rattle.sfc_control.specs.Tables.{Begins}
 use Rattle.sfc_replay.specs.Reading.{Device, IsFront}
 use Rattle.sfc_replay.specs.sfc_output.Commands.{refusal_line}
@@ -25,7 +25,7 @@ use Rattle.sfc_replay.specs.sfc_script.declared.session_line.SessionLine.{Sessio
 use Rattle.sfc_replay.specs.sfc_script.declared.session_line.SessionLine.TheVariants.{Skipped, Says, Faulty}
 use Rattle.sfc_run.specs.declared.console.Console.{Console}
 use Rattle.sfc_run.specs.declared.run_faults.RunFaults.{RunFaults}
-use Rattle.sfc_run.specs.Consoles.{IsKept, Keeps, KeepsLast, KeepsWaiting}
+use Rattle.sfc_run.specs.Consoles.{IsKept, IsSeatKept, Keeps, KeepsLast, KeepsWaiting}
 use Rattle.sfc_run.specs.Faults.{both}
 use Rattle.sfc_run.specs.SessionText.{faulty_text}
 
@@ -91,6 +91,10 @@ scene console errors = record { console = console; errors = errors }
 abbrev pub Stays : {X C : Type 0} → Scene X C → Scene X C → Type 0
 Stays old new = IsKept old.console new.console × (new.errors ≡ old.errors)
 
+-- the same, but for the clock
+abbrev pub StaysAt : {X C : Type 0} → Scene X C → Scene X C → Type 0
+StaysAt old new = IsSeatKept old.console new.console × (new.errors ≡ old.errors)
+
 -- A session reads lines, and tells refusals, by the names of a plant. The book under the lock was opened with a plant, a table of
 -- conditions, which more may have joined, and a limit. The clock goes on as it may.
 module _ {X C : Type 0} (names plant : PlantData) (table : List BreakCondition) (limit : ℕ) (reads : C → ℤ → C → Type 0) where
@@ -111,7 +115,7 @@ module _ {X C : Type 0} (names plant : PlantData) (table : List BreakCondition) 
     pub entries : List Entry
     pub begins : Begins table all
     pub read : reads old.clock raw new.clock
-    pub called : IsCalledWaiting plant all limit entries point condition raw old.seat new.seat answer
+    pub called : IsCalledWhen plant all limit entries point condition raw old.seat new.seat answer
     pub kept : KeepsWaiting condition.program point old new answer
 
   -- The line of this number was obeyed: where it is skipped nothing happens, where it is no command its number is told, and else its
@@ -159,7 +163,7 @@ module _ {X C : Type 0} (names plant : PlantData) (table : List BreakCondition) 
   StopsWaiting c None old new = StopsAt Faulty old new
   StopsWaiting c (Some []) old new = StopsAt (Says (BreakIf c.place.program c.place.point (record { 0 = 0 }))) old new
   StopsWaiting c (Some (condition ∷ more)) old new =
-      Stays old new
+      StaysAt old new
       ⊎ ((error : CallError) × CallsWaiting c.place.point condition old.console new.console (Err error) × (new.errors ≡ old.errors))
 
   -- the same at what a line says; or its condition wasn't read

@@ -5,9 +5,9 @@ ghost use Rattle.sfc_control.specs.sfc_debug.declared.break_condition.BreakCondi
 ghost use Rattle.sfc_control.specs.declared.call_error.CallError.{CallError};
 ghost use Rattle.sfc_control.specs.declared.entry.Entry.{Entry};
 ghost use Rattle.sfc_control.specs.declared.receipt.Receipt.{Receipt};
-ghost use Rattle.sfc_control.specs.Seats.{number, IsCalled, IsCalledWaiting};
+ghost use Rattle.sfc_control.specs.Seats.{number, IsCalled, IsCalledWhen};
 ghost use Rattle.sfc_control.specs.Tables.{Begins};
-ghost use Rattle.sfc_run.specs.Consoles.{Keeps, KeepsOr, KeepsWaiting, Ends};
+ghost use Rattle.sfc_run.specs.Consoles.{Keeps, KeepsOr, KeepsSeatOr, KeepsWaiting, Ends};
 
 use crate::sfc_debug::break_condition::BreakCondition;
 use sfc_control::call_error::CallError;
@@ -70,7 +70,7 @@ impl<L: OpenedWith, C: Clock> Console<L, C> {
     }
 
     /// The same of a breakpoint at a point that waits for a condition, as `Seat::break_when` sets it. The error is that memory was refused,
-    /// for the receipt or for the condition; then nothing was called.
+    /// for the receipt or for the condition; then nothing was called, but the clock may have been read.
     pub fn break_when<R: Wait>(
         &mut self,
         rt: &R,
@@ -81,14 +81,14 @@ impl<L: OpenedWith, C: Clock> Console<L, C> {
         ensures number { number self.new.seat ≡ number self.old.seat }
         ensures called { IfOk result (λ answer. (raw : ℤ) × (all : List BreakCondition) × (es : List Entry) × Begins L.table all
             × C.reads self.old.clock raw self.new.clock
-            × IsCalledWaiting L.plant all L.limit es point condition raw self.old.seat self.new.seat answer) }
+            × IsCalledWhen L.plant all L.limit es point condition raw self.old.seat self.new.seat answer) }
         ensures kept { IfOk result (λ answer. KeepsWaiting condition.program point self.old self.new answer) }
         ensures nothing { KeepsSeatOr self.old self.new result }
     {
         self.receipts.reserve(1)?;
         let answer = self
             .seat
-            .break_when(rt, controller, (point, condition), &mut self.clock)?;
+            .break_when(rt, controller, point, condition, &mut self.clock)?;
         if let Ok(receipt) = answer {
             self.receipts.push_reserved(receipt);
         }

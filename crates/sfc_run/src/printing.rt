@@ -140,10 +140,9 @@ pub fn print_rows<L: OpenedWith, R: Wait, W: Write, T: Write, F: Write>(
             return Ok(Some(drained));
         }
         let goes_on = some.some || printing.watch.alarms.follower.is_level();
-        let Watch {
-            alarms, resumption, ..
-        } = &mut printing.watch;
-        let is_saved = resumption.catch_up(rt, beside.controller, &alarms.follower, goes_on);
+        let follower = &printing.watch.alarms.follower;
+        let resumption = &mut printing.watch.resumption;
+        let is_saved = resumption.catch_up(rt, beside.controller, follower, goes_on);
         if !some.some && !is_saved {
             let bells = beside.controller.bells();
             bells.wait_for_rows(rt, Duration::from_millis(LONG));

@@ -15,7 +15,7 @@ use Rattle.sfc_run.specs.declared.session.Waiting.{Waiting}
 use Rattle.sfc_control.specs.declared.call_error.CallError.{CallError}
 use Rattle.sfc_control.specs.declared.receipt.Receipt.{Receipt}
 use Rattle.sfc_events.specs.declared.command.Point.{Point}
-use Rattle.sfc_run.specs.Holding.{CallsWaiting, Scene, Stays, Tells, TellsFor, answer_told, Obeys, ObeysAll, ObeysFront, ObeysLine, Stops, StopsAt, StopsLine, TakesFor, end_told}
+use Rattle.sfc_run.specs.Holding.{CallsWaiting, Scene, StaysAt, Tells, TellsFor, answer_told, Obeys, ObeysAll, ObeysFront, ObeysLine, Stops, StopsAt, StopsLine, TakesFor, end_told}
 
 -- Bytes begin with these lines, each with its end. The other lines are those of the rest, whatever comes behind them.
 abbrev pub Begins : List ℕ → List (List ℕ) → List ℕ → Type 0
@@ -69,7 +69,7 @@ module _ {X C : Type 0} (names plant : PlantData) (table : List BreakCondition) 
       (answer : Result Receipt CallError) × CallsWaiting names plant table limit reads point condition old.console new.console answer
       × Tells untold old.errors new.errors (answer_told names answer)
   WaitsOr point condition old new (Err error) =
-      Stays old new
+      StaysAt old new
       ⊎ ((refusal : CallError) × CallsWaiting names plant table limit reads point condition old.console new.console (Err refusal)
         × (new.errors ≡ old.errors))
 
