@@ -40,8 +40,8 @@ impl BreakCondition {
         })
     }
 
-    // Whether it is the other, wherever its parts lie in memory.
-    fn is_same(&self, other: &BreakCondition) -> bool
+    /// Whether it is the other, wherever its parts lie in memory.
+    pub fn is_same(&self, other: &BreakCondition) -> bool
         ensures same { result ≡ true → self.now ≡ other.now }
         ensures other { result ≡ false → self.now ≡ other.now → ⊥ }
     {

@@ -13,7 +13,7 @@ use Rattle.sfc_script.specs.declared.condition_error.ConditionError.{ConditionEr
 use Rattle.sfc_script.specs.declared.condition_error.ConditionError.TheVariants.{UnknownProgram, Wrong, Memory}
 use Rattle.sfc_script.specs.Commands.{Conditional}
 use Rattle.sfc_script.specs.Scripts.{ConditionReads, added_by}
-use Rattle.sfc_script.specs.Private.Adding.{ReadsCondition, added, refusal}
+use Rattle.sfc_script.specs.ConditionAnswers.{ReadsCondition, added, refusal}
 
 -- a text that is an expression
 by_tree : (plant : PlantData) (k : ℕ) (c : Conditional) (tree : Tree) (more : Option (List BreakCondition)) → ExpressionReads c.text (Ok tree)

@@ -19,8 +19,9 @@ pub mod Scripts
 -- lines of text that comes in pieces, and what a line of a session says
 pub mod Arriving
 pub mod SessionLines
--- what a reader of scripts answers
+-- what readers of scripts and of conditions answer
 pub mod Answers
+pub mod ConditionAnswers
 -- What private clauses cite.
 pub mod Private
 -- What the crates above name through this one.

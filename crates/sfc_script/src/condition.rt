@@ -1,7 +1,7 @@
 //! The conditions of breakpoints, by their texts.
 
 ghost use Rattle.std.specs.Prelude.{◌≡◌};
-ghost use Rattle.sfc_script.specs.Private.Adding as adding;
+ghost use Rattle.sfc_script.specs.ConditionAnswers as answers;
 ghost use Rattle.sfc_script.specs.Private.Reading.{as_conditional};
 
 use crate::command::Conditional;
@@ -16,7 +16,7 @@ use std::alloc::Global;
 
 // The refusal of a text that is no expression, which stands at this line.
 fn refusal(kind: ReadErrorKind, number: usize) -> ScriptError
-    ensures { result ≡ adding.refusal number kind }
+    ensures { result ≡ answers.refusal number kind }
 {
     match kind {
         ReadErrorKind::Memory => ScriptError::Memory,
@@ -29,7 +29,7 @@ fn added(
     checked: Result<BreakCondition, ConditionError>,
     number: usize,
 ) -> Result<Option<BreakCondition>, ScriptError>
-    ensures { result ≡ adding.added number checked }
+    ensures { result ≡ answers.added number checked }
 {
     match checked {
         Ok(condition) => Ok(Some(condition)),
@@ -49,7 +49,7 @@ pub fn read_condition(
     conditional: Conditional<'_>,
     number: usize,
 ) -> Result<Option<BreakCondition>, ScriptError>
-    ensures { adding.ReadsCondition plant.now conditions (as_conditional conditional.entry) number result }
+    ensures { answers.ReadsCondition plant.now conditions (as_conditional conditional.entry) number result }
 {
     let expression = match read_expr(alloc, conditional.text) {
         Ok(expression) => expression,

@@ -18,7 +18,7 @@
 
 pub mod arriving;
 pub mod command;
-mod condition;
+pub mod condition;
 pub mod condition_error;
 pub mod conditions;
 mod instant;
