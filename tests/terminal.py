@@ -128,7 +128,7 @@ pump.shows(r"\nT#\S+ BREAK Pump1 STEP RunningOn WHEN Stop AND Start\n", "which b
 pump.type("FORCE Stop TRUE")
 pump.shows(r"SCAN Main overruns \d+ hit\n  Pump1 \d+ steps RunningOn=T#0s cleared 2 run Pump,RunOnLamp\n", "that is hit")
 pump.type("SHOW")
-pump.shows(r"\ninstant T#\S+ run T#\S+ halted\n  Pump1 \d+ steps RunningOn=T#0s cleared 2 run Pump,RunOnLamp\n", "how it stands")
+pump.shows(r"\ninstant T#\S+ run T#\S+ halted\ntask Main next T#\S+ overruns \d+\n  Pump1 \d+ steps RunningOn=T#0s cleared 2 run Pump,RunOnLamp\n", "how it stands")
 pump.type("WHY Pump1 3")
 pump.shows(r"\nPump1 TRANSITION 3 enabled\n  step RunningOn is active\n  condition FALSE: Start AND NOT Stop\n    Start TRUE\n    Stop TRUE\n", "why it stays")
 pump.type("SINGLE Main T#200ms")
