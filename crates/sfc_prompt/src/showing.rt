@@ -20,8 +20,7 @@ use std::alloc::{AllocError, Global};
 const ROWS: u64 = 10;
 
 // How all stands.
-fn show(alloc: Global, session: &Session, out: &mut Vec<u8>) -> Result<(), AllocError>
-{
+fn show(alloc: Global, session: &Session, out: &mut Vec<u8>) -> Result<(), AllocError> {
     let releases = releases(alloc, session.debugger())?;
     append_show(out, session.debugger(), session.instant(), &releases)
 }
@@ -81,8 +80,7 @@ pub fn shown(
     session: &Session,
     word: Word,
     text: &[u8],
-) -> Result<Vec<u8>, AllocError>
-{
+) -> Result<Vec<u8>, AllocError> {
     let mut out = Vec::new(alloc);
     append_shown(alloc, session, word, text, &mut out)?;
     Ok(out)
@@ -95,8 +93,7 @@ fn append_shown(
     word: Word,
     text: &[u8],
     out: &mut Vec<u8>,
-) -> Result<(), AllocError>
-{
+) -> Result<(), AllocError> {
     match word {
         Word::Show if !is_empty(text) => append_note(out, b"SHOW, and nothing behind it"),
         Word::Points if !is_empty(text) => append_note(out, b"POINTS, and nothing behind it"),

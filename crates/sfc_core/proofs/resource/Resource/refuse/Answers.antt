@@ -5,7 +5,7 @@ use Rattle.sfc_core.specs.Due.{calls_at, calls_of, singles_of}
 use Rattle.sfc_core.specs.Private.Ready.{flags_of}
 use Rattle.sfc_core.specs.PlantState.{state_of}
 use Rattle.sfc_core.specs.Verdict.{or_then, turn_refusal}
-use Rattle.sfc_core.proofs.Verdicts.{by_parts, by_turn, none_of, singles_there}
+use Rattle.sfc_core.proofs.Verdicts.{by_parts, by_turn, singles_there}
 use Rattle.sfc_core.proofs.resource.Resource.refuse.Goals as goal
 
 pub returns-in-Some : goal.returns-in-Some
