@@ -9,6 +9,21 @@ use Rattle.sfc_page.specs.Lines.{written}
 use Rattle.sfc_output.proofs.Texts.{first_after, placed, all_placed}
 use Rattle.sfc_output.proofs.program.put_steps.Goals as goal
 
+pub put_step-requires : goal.put_step-requires
+put_step-requires c = omega (arith, (c.in-Some.ensures.some c.places.from c.places.invariant.stands).0, c.active_flags-active.ensures.len)
+
+pub overflow_cast-s : goal.overflow_cast-s
+overflow_cast-s c =
+    let found = c.in-Some.ensures.some c.places.from c.places.invariant.stands in
+    let few = c.steps-steps.ensures.count in
+    grind (arith, found.0, c.active_flags-active.ensures.len, few)
+
+pub overflow_add-from : goal.overflow_add-from
+overflow_add-from c =
+    let found = c.in-Some.ensures.some c.places.from c.places.invariant.stands in
+    let few = c.steps-steps.ensures.count in
+    grind (arith, found.0, c.active_flags-active.ensures.len, few)
+
 pub places-preserved : goal.places-preserved
 places-preserved c =
     let found = c.in-Some.ensures.some c.places.from c.places.invariant.stands in
