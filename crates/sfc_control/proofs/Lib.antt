@@ -5,12 +5,6 @@ pub mod Legal
 pub mod Applying
 -- published rows
 pub mod FeedRows
--- a longer table of conditions
-pub mod Growing
--- what a table begins with
-pub mod Tables
--- a call whose condition joins the table
-pub mod Breaking
 -- what an epoch cuts
 pub mod Cutting
 -- where a history is cut

@@ -12,8 +12,6 @@ pub mod Counts
 pub mod Histories
 -- what a book answers
 pub mod Answering
--- the table of conditions, which grows
-pub mod Tables
 -- the rows of the feed
 pub mod Rows
 -- a row that goes to the feed

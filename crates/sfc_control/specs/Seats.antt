@@ -1,13 +1,10 @@
 -- What contracts see of a seat.
-use Rattle.std.specs.Prelude.{ℕ, ◌≡◌, ◌<◌, ◌+◌, List, [], ◌∷◌, ◌++◌, ℤ, Option, None, IfSome, Result, Ok, Err, IfOk, OnOk}
+use Rattle.std.specs.Prelude.{ℕ, ◌≡◌, ◌<◌, ◌+◌, List, [], ◌∷◌, ◌++◌, ℤ, Option, None, IfSome, Result, Ok, Err, IfOk}
 use Rattle.std.specs.Prelude.{length, max, slice_index_or}
 use Rattle.sfc_plant.specs.Plants.{PlantData}
 use Rattle.sfc_events.specs.declared.command.Command.{Command}
-use Rattle.sfc_events.specs.declared.command.Point.{Point}
 use Rattle.sfc_events.specs.declared.refusal.Refusal.{Refusal}
-use Rattle.sfc_events.specs.declared.refusal.Refusal.TheVariants.{NoSuchCondition}
 use Rattle.sfc_debug.specs.declared.break_condition.BreakCondition.{BreakCondition}
-use Rattle.sfc_debug.specs.Longer.{break_when, with_condition}
 use Rattle.sfc_control.specs.declared.call_error.CallError.{CallError}
 use Rattle.sfc_control.specs.declared.call_error.CallError.TheVariants.{Refused, AuditMismatch}
 use Rattle.sfc_control.specs.declared.entry.Entry.{Entry}
@@ -73,17 +70,6 @@ pub record IsCalled {X : Type 0} (plant : PlantData) (table : List BreakConditio
   pub answered : IsEntered plant table limit (last_receipt old) (number old) es command raw answer
   pub put : Puts es command (given old) (given new) answer
   pub held : IfOk answer (λ receipt. first_held new ≡ max (first_held old) (first_after command (first_in es) receipt.index))
-
--- What a call does after these entries whose condition joins the table: the condition stands behind all others, and the breakpoint that
--- waits for it is called. A table of 65,535 conditions takes no more, and the breakpoint's number is that of none; with a longer one nothing
--- is called. So what is accepted waits for the condition that was given.
-pub record IsCalledWhen {X : Type 0} (plant : PlantData) (table : List BreakCondition) (limit : ℕ) (es : List Entry)
-    (point : Point) (condition : BreakCondition) (raw : ℤ) (old new : Seat X) (answer : Result Receipt CallError) : Type 0 where
-  pub joins : length table < 65535 →
-      IsCalled plant (with_condition table condition) limit es (break_when table point condition) raw old new answer
-  pub full : length table ≡ 65535 → IsCalled plant table limit es (break_when table point condition) raw old new answer
-  pub longer : 65535 < length table → answer ≡ Err (Refused NoSuchCondition)
-  pub accepted : OnOk answer (length table < 65535)
 
 -- One legal history has both: the later receipt's entry is the next one behind others, among which the earlier one stands, unless it is
 -- from before their cut. The later one's index is higher.

@@ -22,7 +22,6 @@ use crate::tail::{Rising, Tail};
 use crate::telling::tell;
 use rtrb::{Producer, RingBuffer};
 use sfc_base::ticks::Ticks;
-use sfc_debug::break_condition::BreakCondition;
 use sfc_debug::debugger::Debugger;
 use sfc_debug::mode::Mode;
 use sfc_debug::opening::DebugOpening;
@@ -53,7 +52,6 @@ impl Book {
     ghost use Rattle.std.specs.Prelude.{[], ◌∷◌, ◌++◌, ◌+◌, ◌<◌, ◌≤◌, length, IfOk, OnOk, OnErr, IsTrue, ◌↔◌};
     ghost use Rattle.rtrb.specs.Ring.{SameProducer};
     ghost use Rattle.sfc_base.specs.Ticks.{Within};
-    ghost use Rattle.sfc_debug.specs.Longer.{with_condition};
     ghost use Rattle.sfc_debug.specs.States.{state_of, erasure};
     ghost use Rattle.sfc_debug.specs.Tracing.{row_of};
     ghost use Rattle.sfc_debug.specs.Work.{command_work};
@@ -109,31 +107,6 @@ impl Book {
         ensures err { OnErr result (limit self.new ≡ limit self.old) }
     {
         self.history.reserve(n)
-    }
-
-    /// One more condition in the table, behind all others, which no breakpoint waits for yet; nothing else changes. What was answered stays
-    /// the verdict with the longer table, since accepted commands name conditions of the shorter one alone. The one error is that memory was
-    /// refused: then the book is as it was, and the condition is given up.
-    pub fn add_condition(&mut self, condition: BreakCondition) -> Result<(), AllocError>
-        ensures plant { plant self.new ≡ plant self.old }
-        ensures mask { mask self.new ≡ mask self.old }
-        ensures limit { limit self.new ≡ limit self.old }
-        ensures accepted { accepted self.new ≡ accepted self.old }
-        ensures entries { entries self.new ≡ entries self.old }
-        ensures first { first self.new ≡ first self.old }
-        ensures opening { opening_of self.new ≡ opening_of self.old }
-        ensures feed { feed_of self.new ≡ feed_of self.old }
-        ensures ok { OnOk result (table self.new ≡ with_condition (table self.old) condition) }
-        ensures err { OnErr result (table self.new ≡ table self.old) }
-    {
-        self.debugger.add_condition(condition)
-    }
-
-    /// The table of conditions.
-    pub fn conditions(&self) -> &[BreakCondition]
-        ensures { result.now ≡ table self.now }
-    {
-        self.debugger.conditions()
     }
 
     /// Whether the receipt stands: its index is that of an entry that was dropped, or the entry at its index is the receipt's.

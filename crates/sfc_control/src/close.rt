@@ -4,7 +4,6 @@ ghost use Rattle.std.specs.Prelude.{◌≡◌, ◌<◌, ℕ, All, length, MatchO
 ghost use Rattle.sfc_control.specs.Receipts.{Stands};
 ghost use Rattle.sfc_control.specs.Books as books;
 ghost use Rattle.sfc_control.specs.Books.{accepted};
-ghost use Rattle.sfc_control.specs.Tables.{Begins};
 ghost use Rattle.sfc_control.specs.Closing.{IsFirstNot, CountsRight, AllRight, IsFirstMiscounted, IsFirstWrong, all_calls};
 
 use crate::book::Book;
@@ -94,7 +93,7 @@ impl<L: OpenedWith> Controller<L> {
         requires some { 0 < length seats.items }
         requires all { length seats.items ≡ L.parts }
         ensures plant { IfOk result (λ book. books.plant book ≡ L.plant) }
-        ensures table { IfOk result (λ book. Begins L.table (books.table book)) }
+        ensures table { IfOk result (λ book. books.table book ≡ L.table) }
         ensures mask { IfOk result (λ book. books.mask book ≡ L.mask) }
         ensures limit { IfOk result (λ book. books.limit book ≡ L.limit) }
         ensures ok { IfOk result (λ book. AllRight (accepted book) seats.items receipts.items) }

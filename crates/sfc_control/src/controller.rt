@@ -1,7 +1,6 @@
 //! A book that threads share.
 
-ghost use Rattle.std.specs.Prelude.{◌≡◌, ◌<◌, ◌≤◌, [], List, length, None, IfOk, IfSome};
-ghost use Rattle.sfc_debug.specs.declared.break_condition.BreakCondition.{BreakCondition};
+ghost use Rattle.std.specs.Prelude.{◌≡◌, ◌<◌, ◌≤◌, [], List, length, IfOk};
 ghost use Rattle.sfc_debug.specs.Agreement.{Agrees, plant_of, table_of, mask_of};
 ghost use Rattle.sfc_debug.specs.Openings.{IsOpeningFor};
 ghost use Rattle.sfc_control.specs.declared.entry.Entry.{Entry};
@@ -10,7 +9,6 @@ ghost use Rattle.sfc_control.specs.Holding.{first_in, held_number};
 ghost use Rattle.sfc_control.specs.LegalHistory.{IsLegal};
 ghost use Rattle.sfc_control.specs.Saved.{IsSavedAfter};
 ghost use Rattle.sfc_control.specs.Seats.{AreFresh};
-ghost use Rattle.sfc_control.specs.Tables.{Begins};
 ghost use Rattle.sfc_control.specs.Tails.{taken, capacity};
 
 use crate::bells::Bells;
@@ -20,7 +18,6 @@ use crate::locked::Locked;
 use crate::opened_with::OpenedWith;
 use crate::seat::Seat;
 use crate::tail::Tail;
-use sfc_debug::break_condition::{BreakCondition, are_same};
 use sfc_debug::debugger::Debugger;
 use sfc_debug::opening::DebugOpening;
 use std::alloc::{AllocError, Global};
@@ -114,32 +111,20 @@ impl<L: OpenedWith> Controller<L> {
 
     /// How many entries are held: those since the latest epoch. It waits for the lock.
     pub fn held<R: Wait>(&self, rt: &R) -> usize
-        ensures { (all : List BreakCondition) × (es : List Entry) × Begins L.table all × IsLegal L.plant all es
-            × (result ≡ held_number (first_in es) (length es)) }
+        ensures { (es : List Entry) × IsLegal L.plant L.table es × (result ≡ held_number (first_in es) (length es)) }
     {
         let locked = self.locked.lock(rt);
         locked.book.entries().len()
     }
 
-    /// Puts into the opening what all commands leave for later ones that were accepted so far, where the table of the book has just these
-    /// conditions; how many commands they are. Else the answer is `None`, and the opening stays as it was. It waits for the lock, and takes
-    /// no memory.
-    pub fn save<R: Wait>(
-        &self,
-        rt: &R,
-        opening: &mut DebugOpening,
-        conditions: &[BreakCondition],
-    ) -> Option<u64>
+    /// Puts into the opening what all commands leave for later ones that were accepted so far; how many they are. It waits for the lock, and
+    /// takes no memory.
+    pub fn save<R: Wait>(&self, rt: &R, opening: &mut DebugOpening) -> u64
         requires { IsOpeningFor L.plant opening.old }
         ensures sizes { IsOpeningFor L.plant opening.new }
-        ensures saved { IfSome result (λ count. (es : List Entry) × IsSavedAfter L.plant conditions.now opening.new count es) }
-        ensures other { result ≡ None → (all : List BreakCondition) × Begins L.table all × (all ≡ conditions.now → ⊥) }
-        ensures kept { result ≡ None → opening.new ≡ opening.old }
+        ensures saved { (es : List Entry) × IsSavedAfter L.plant L.table opening.new result es }
     {
         let locked = self.locked.lock(rt);
-        if !are_same(locked.book.conditions(), conditions) {
-            return None;
-        }
-        Some(locked.book.save(opening))
+        locked.book.save(opening)
     }
 }

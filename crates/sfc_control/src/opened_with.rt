@@ -14,7 +14,7 @@ pub trait OpenedWith: Ledger {
     /// The plant that the debugger steers.
     ghost plant: { PlantData };
 
-    /// The conditions of breakpoints with which its table begins.
+    /// Its conditions of breakpoints.
     ghost table: { List BreakCondition };
 
     /// Which commands have rows in the feed.

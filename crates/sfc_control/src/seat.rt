@@ -14,10 +14,7 @@ use crate::locked::Locked;
 use crate::opened_with::OpenedWith;
 use crate::receipt::Receipt;
 use sfc_base::ticks::Ticks;
-use sfc_debug::break_condition::{BreakCondition, MOST};
-use sfc_events::command::{Command, Point};
-use sfc_events::refusal::Refusal;
-use std::alloc::AllocError;
+use sfc_events::command::Command;
 use std::sync::Wait;
 use std::sync::ledger::{Ledger, Share};
 
@@ -42,17 +39,14 @@ pub struct Seat<L: Ledger> {
 
 impl<L: OpenedWith> Seat<L> {
     ghost use Rattle.std.specs.Prelude.{[], ◌∷◌, ◌++◌, ◌+◌, Some, Err, IfOk, OnOk, OnErr, ℤ, List, IsTrue, ◌↔◌, max};
-    ghost use Rattle.sfc_debug.specs.declared.break_condition.BreakCondition.{BreakCondition};
-    ghost use Rattle.sfc_debug.specs.Longer.{with_condition, break_when};
     ghost use Rattle.sfc_control.specs.declared.entry.Entry.{Entry};
     ghost use Rattle.sfc_control.specs.Answering.{answered};
     ghost use Rattle.sfc_control.specs.Holding.{held_after, first_after};
     ghost use Rattle.sfc_control.specs.Receipts.{entry_of, IsReceiptOf};
-    ghost use Rattle.sfc_control.specs.Books.{accepted, entries, first, limit, table};
+    ghost use Rattle.sfc_control.specs.Books.{accepted, entries, first, limit};
     ghost use Rattle.sfc_control.specs.Lock.{book_of, total_of};
     ghost use Rattle.sfc_control.specs.Seats.{number, calls, given, last_receipt, first_held};
-    ghost use Rattle.sfc_control.specs.Seats.{KeptStands, called, Puts, IsCalled, IsCalledWhen, BothStand};
-    ghost use Rattle.sfc_control.specs.Tables.{Begins};
+    ghost use Rattle.sfc_control.specs.Seats.{KeptStands, called, Puts, IsCalled, BothStand};
     ghost use Rattle.sfc_control.specs.Waiting.{lag_after};
 
     // Whether the last receipt, if there is one, stands in the book.
@@ -75,9 +69,8 @@ impl<L: OpenedWith> Seat<L> {
         raw: i64,
     ) -> Result<Receipt, CallError>
         ensures audit { (KeptStands (last_receipt self.old) (accepted (book_of locked.old)) → ⊥) → result ≡ Err CallError.AuditMismatch }
-        ensures answer { KeptStands (last_receipt self.old) (accepted (book_of locked.old)) → result ≡ called (answered L.plant
-            (table (book_of locked.old)) L.limit (accepted (book_of locked.old)) (number self.old) command raw) }
-        ensures table { table (book_of locked.new) ≡ table (book_of locked.old) }
+        ensures answer { KeptStands (last_receipt self.old) (accepted (book_of locked.old)) →
+            result ≡ called (answered L.plant L.table L.limit (accepted (book_of locked.old)) (number self.old) command raw) }
         ensures accepted { IfOk result (λ receipt. accepted (book_of locked.new) ≡
             accepted (book_of locked.old) ++ entry_of receipt ∷ []) }
         ensures entries { IfOk result (λ receipt. entries (book_of locked.new) ≡
@@ -91,7 +84,7 @@ impl<L: OpenedWith> Seat<L> {
         ensures held { OnOk result (first_held self.new ≡ max (first_held self.old) (first (book_of locked.new))) }
         ensures put { Puts (accepted (book_of locked.old)) command (given self.old) (given self.new) result }
         ensures receipt { IfOk result (λ receipt. IsReceiptOf receipt (number self.old) command raw) }
-        ensures legal { IfOk result (λ receipt. BothStand L.plant (table (book_of locked.old)) (last_receipt self.old) receipt) }
+        ensures legal { IfOk result (λ receipt. BothStand L.plant L.table (last_receipt self.old) receipt) }
         ensures seat { OnErr result (self.new ≡ self.old) }
         ensures book { OnErr result (book_of locked.new ≡ book_of locked.old) }
         ensures ledger { OnErr result (total_of locked.new ≡ total_of locked.old) }
@@ -124,14 +117,13 @@ impl<L: OpenedWith> Seat<L> {
         command: Command,
         clock: &mut C,
     ) -> Result<Receipt, CallError>
-        ensures entered { (raw : ℤ) × (all : List BreakCondition) × (es : List Entry) × Begins L.table all × C.reads clock.old raw clock.new
-            × IsCalled L.plant all L.limit es command raw self.old self.new result }
+        ensures entered { (raw : ℤ) × (es : List Entry) × C.reads clock.old raw clock.new
+            × IsCalled L.plant L.table L.limit es command raw self.old self.new result }
         ensures receipt { IfOk result (λ receipt. (receipt.seat ≡ number self.old) × (receipt.command ≡ command)) }
         ensures number { number self.new ≡ number self.old }
         ensures calls { OnOk result (calls self.new ≡ calls self.old + 1) }
         ensures last { IfOk result (λ receipt. last_receipt self.new ≡ Some receipt) }
-        ensures legal { IfOk result (λ receipt. (all : List BreakCondition) × Begins L.table all
-            × BothStand L.plant all (last_receipt self.old) receipt) }
+        ensures legal { IfOk result (λ receipt. BothStand L.plant L.table (last_receipt self.old) receipt) }
         ensures seat { OnErr result (self.new ≡ self.old) }
     {
         let mut lag = 0;
@@ -149,15 +141,14 @@ impl<L: OpenedWith> Seat<L> {
         clock: &mut C,
         lag: &mut i64,
     ) -> Result<Receipt, CallError>
-        ensures entered { (raw : ℤ) × (all : List BreakCondition) × (es : List Entry) × Begins L.table all × C.reads clock.old raw clock.new
-            × IsCalled L.plant all L.limit es command raw self.old self.new result
-            × (lag.new ≡ lag_after L.plant all es result) }
+        ensures entered { (raw : ℤ) × (es : List Entry) × C.reads clock.old raw clock.new
+            × IsCalled L.plant L.table L.limit es command raw self.old self.new result
+            × (lag.new ≡ lag_after L.plant L.table es result) }
         ensures receipt { IfOk result (λ receipt. (receipt.seat ≡ number self.old) × (receipt.command ≡ command)) }
         ensures number { number self.new ≡ number self.old }
         ensures calls { OnOk result (calls self.new ≡ calls self.old + 1) }
         ensures last { IfOk result (λ receipt. last_receipt self.new ≡ Some receipt) }
-        ensures legal { IfOk result (λ receipt. (all : List BreakCondition) × Begins L.table all
-            × BothStand L.plant all (last_receipt self.old) receipt) }
+        ensures legal { IfOk result (λ receipt. BothStand L.plant L.table (last_receipt self.old) receipt) }
         ensures seat { OnErr result (self.new ≡ self.old) }
     {
         let mut locked = controller.locked.lock(rt);
@@ -168,46 +159,5 @@ impl<L: OpenedWith> Seat<L> {
         drop(locked);
         controller.bells.ring();
         answer
-    }
-
-    /// A breakpoint that waits for a condition: under the lock of the seat's controller the condition joins the table, behind all others,
-    /// and then the command `BreakIf` of it is entered, at the instant that the clock reads once the lock is held. It waits for the lock.
-    /// Then the bells are rung that the call concerns.
-    ///
-    /// What is refused leaves its condition in the table, where no breakpoint names it: so the table only grows. A table of 65,535
-    /// conditions takes no more: then the command is entered with the number 65,535, which is that of no condition, and is refused in its
-    /// turn. With a longer table, which a debugger may be handed in with, nothing is entered, and the answer is `NoSuchCondition`. The one
-    /// error is that memory was refused: then the clock was read, and all else is as it was.
-    pub fn break_when<R: Wait, C: Clock>(
-        &mut self,
-        rt: &R,
-        controller: &Controller<L>,
-        point: Point,
-        condition: BreakCondition,
-        clock: &mut C,
-    ) -> Result<Result<Receipt, CallError>, AllocError>
-        ensures entered { IfOk result (λ answer. (raw : ℤ) × (all : List BreakCondition) × (es : List Entry) × Begins L.table all
-            × C.reads clock.old raw clock.new × IsCalledWhen L.plant all L.limit es point condition raw self.old self.new answer) }
-        ensures receipt { IfOk result (λ answer. IfOk answer (λ receipt. receipt.seat ≡ number self.old)) }
-        ensures number { number self.new ≡ number self.old }
-        ensures calls { IfOk result (λ answer. OnOk answer (calls self.new ≡ calls self.old + 1)) }
-        ensures last { IfOk result (λ answer. IfOk answer (λ receipt. last_receipt self.new ≡ Some receipt)) }
-        ensures legal { IfOk result (λ answer. IfOk answer (λ receipt. (all : List BreakCondition) × Begins L.table all
-            × (receipt.command ≡ break_when all point condition)
-            × BothStand L.plant (with_condition all condition) (last_receipt self.old) receipt)) }
-        ensures seat { IfOk result (λ answer. OnErr answer (self.new ≡ self.old)) }
-        ensures err { OnErr result (self.new ≡ self.old) }
-    {
-        let mut locked = controller.locked.lock(rt);
-        let raw = clock.now();
-        if locked.book.conditions().len() > MOST {
-            return Ok(Err(CallError::Refused(Refusal::NoSuchCondition)));
-        }
-        let breakpoint = locked.waiting(point, condition)?;
-        let answer = self.enter(&mut locked, breakpoint, raw);
-        controller.bells.mark(&locked.book, breakpoint, &answer);
-        drop(locked);
-        controller.bells.ring();
-        Ok(answer)
     }
 }

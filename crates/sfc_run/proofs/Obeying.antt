@@ -9,8 +9,8 @@ use Rattle.sfc_control.specs.declared.receipt.Receipt.{Receipt}
 use Rattle.sfc_run.specs.Asks.{run_line}
 use Rattle.sfc_replay.specs.sfc_script.declared.session_line.SessionLine.TheVariants.{Says}
 use Rattle.sfc_run.specs.declared.console.Console.{Console}
-use Rattle.sfc_run.specs.Holding.{Calls, ObeysAll, ObeysLine, ObeysFor, ObeysFront, Scene, Stops, error_told, scene}
-use Rattle.sfc_run.specs.Working.Walking.{ObeysAllOr, ObeysLineOr, ObeysOr, TellsOr}
+use Rattle.sfc_run.specs.Holding.{Calls, Obeys, ObeysAll, ObeysFor, ObeysFront, Scene, Stops, error_told, scene}
+use Rattle.sfc_run.specs.Working.Walking.{ObeysAllOr, ObeysOr, TellsOr}
 
 pub or_false : (b : Bool) → (b || false) ≡ b
 or_false true = refl
@@ -36,12 +36,12 @@ module _ {X C : Type 0} (names plant : PlantData) (table : List BreakCondition) 
 
   -- one line
   pub obeys_one : (number : ℕ) (line : List ℕ) (old new : Scene X C) (untold : Bool)
-      → ObeysLine names plant table limit reads number (run_line names line) old new untold → All number (line ∷ []) old new untold
+      → Obeys names plant table limit reads number (run_line names line) old new untold → All number (line ∷ []) old new untold
   obeys_one number line old new untold obeyed = (new, untold, false, obeyed, (refl, refl), sym (or_false untold))
 
   -- the only line, or none where memory was refused
   pub obeys_only : (number n : ℕ) (line : List ℕ) (lines : List (List ℕ)) (old new : Scene X C) → lines ≡ line ∷ [] → n ≡ number
-      → (r : Result Bool AllocError) → ObeysLineOr names plant table limit reads n (run_line names line) old new r
+      → (r : Result Bool AllocError) → ObeysOr names plant table limit reads n (run_line names line) old new r
       → ObeysAllOr names plant table limit reads number lines old new r
   obeys_only number n line lines old new only same (Ok untold) obeyed =
       subst (λ (ls : List (List ℕ)). All number ls old new untold) (sym only)

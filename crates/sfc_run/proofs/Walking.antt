@@ -16,7 +16,7 @@ use Rattle.sfc_replay.specs.sfc_script.Lines.{begins_with_lf, in_line, lines_of,
 use Rattle.sfc_run.specs.Asks.{run_line}
 use Rattle.sfc_run.specs.declared.session.Waiting.{Waiting}
 use Rattle.sfc_run.specs.Faults.{both}
-use Rattle.sfc_run.specs.Holding.{ObeysAll, ObeysFront, ObeysLine, ObeysLines, Scene, Stops, TakesFor}
+use Rattle.sfc_run.specs.Holding.{Obeys, ObeysAll, ObeysFront, ObeysLines, Scene, Stops, TakesFor}
 use Rattle.sfc_run.specs.Working.Walking.{Begins, ObeysAllOr, PiecesOr, Walks, WalksOn, WalksTo, faults_by, nothing}
 use Rattle.sfc_run.proofs.Obeying.{obeys_front, obeys_one, obeys_then, or_assoc, or_false}
 
@@ -111,7 +111,7 @@ module _ {X C : Type 0} (names plant : PlantData) (table : List BreakCondition) 
   -- one line
   pub walks_one : FirstStays → (before after : Waiting) (old new : Scene X C) (line rest : List ℕ) (number : ℕ) (untold : Bool)
       → ended_line before.lines ≡ Some (line, rest) → number ≡ before.obeyed + 1
-      → ObeysLine names plant table limit reads number (run_line names line) old new untold
+      → Obeys names plant table limit reads number (run_line names line) old new untold
       → after.lines ≡ rest → after.obeyed ≡ before.obeyed + 1 → after.untold ≡ (before.untold || untold)
       → length rest < length before.lines → Walks names plant table limit reads before.lines before after old new
   walks_one stays before after old new line rest number untold first numbered obeyed lines count told fewer = record {

@@ -1,8 +1,7 @@
--- What lines of a session say to a run, and which ask how all stands (our choice of format).
+-- Which lines of a session ask how all stands (our choice of format).
 use Rattle.std.specs.Prelude.{ℕ, Bool, false, ◌||◌, if◌then◌else◌, List, Option, None, Some, codes}
 use Rattle.sfc_base.specs.Case.{same_word}
 use Rattle.sfc_plant.specs.Plants.{PlantData}
-use Rattle.sfc_replay.specs.sfc_script.Commands.{Conditional, conditional_of}
 use Rattle.sfc_replay.specs.sfc_script.Lines.{first_word}
 use Rattle.sfc_replay.specs.sfc_script.SessionLines.{session_line}
 use Rattle.sfc_replay.specs.sfc_script.declared.session_line.SessionLine.{SessionLine}
@@ -22,20 +21,6 @@ asks_by (Some w) = is_question w.0
 abbrev pub is_asking : List ℕ → Bool
 is_asking line = asks_by (first_word line)
 
--- One that asks says nothing to the run; any other says what a line of a session does.
-unfoldable pub plain_line : PlantData → List ℕ → SessionLine
-plain_line plant line = if is_asking line then Skipped else session_line plant line
-
--- What a line of the session of a run says.
-pub data RunLine : Type 0 where
-  -- what a line of a session does
-  Plain : SessionLine → RunLine
-  -- a breakpoint that waits for a condition
-  Waits : Conditional → RunLine
-
-abbrev pub line_by : Option Conditional → SessionLine → RunLine
-line_by None said = Plain said
-line_by (Some conditional) said = Waits conditional
-
-unfoldable pub run_line : PlantData → List ℕ → RunLine
-run_line plant line = line_by (conditional_of plant line) (plain_line plant line)
+-- What a line of the session of a run says: one that asks says nothing to the run.
+unfoldable pub run_line : PlantData → List ℕ → SessionLine
+run_line plant line = if is_asking line then Skipped else session_line plant line

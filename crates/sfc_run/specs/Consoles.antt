@@ -1,11 +1,7 @@
 -- What a console keeps of a call.
 use Rattle.std.specs.Prelude.{◌≡◌, ◌+◌, ◌⊎◌, [], ◌∷◌, ◌++◌, Result, Ok, Err, ⊤}
 use Rattle.std.specs.declared.alloc.AllocError.{AllocError}
-use Rattle.sfc_base.specs.declared.ids.ProgId.{ProgId}
 use Rattle.sfc_events.specs.declared.command.Command.{Command}
-use Rattle.sfc_events.specs.declared.command.Command.TheVariants.{BreakIf}
-use Rattle.sfc_events.specs.declared.command.CondId.{CondId}
-use Rattle.sfc_events.specs.declared.command.Point.{Point}
 use Rattle.sfc_control.specs.declared.call_error.CallError.{CallError}
 use Rattle.sfc_control.specs.declared.receipt.Receipt.{Receipt}
 use Rattle.sfc_control.specs.Seats.{number, calls}
@@ -18,10 +14,6 @@ module _ {X C : Type 0} where
       (receipt.seat ≡ number old.seat) × (receipt.command ≡ command)
       × (new.receipts.items ≡ old.receipts.items ++ receipt ∷ []) × (calls new.seat ≡ calls old.seat + 1)
   Keeps command old new (Err error) = (new.receipts.items ≡ old.receipts.items) × (new.seat ≡ old.seat)
-
-  -- the same of a breakpoint that waits for a condition, whatever number that has
-  abbrev pub KeepsWaiting : ProgId → Point → Console X C → Console X C → Result Receipt CallError → Type 0
-  KeepsWaiting program point old new answer = (id : CondId) × Keeps (BreakIf program point id) old new answer
 
   -- the receipt of the call that ends a session is kept where there is memory for it
   abbrev pub KeepsLast : Console X C → Console X C → Result Receipt CallError → Type 0
@@ -38,15 +30,6 @@ module _ {X C : Type 0} where
   -- nothing was called
   abbrev pub IsKept : Console X C → Console X C → Type 0
   IsKept old new = (new.receipts.items ≡ old.receipts.items) × (new.seat ≡ old.seat) × (new.clock ≡ old.clock)
-
-  -- nothing was called, but the clock may have been read
-  abbrev pub IsSeatKept : Console X C → Console X C → Type 0
-  IsSeatKept old new = (new.receipts.items ≡ old.receipts.items) × (new.seat ≡ old.seat)
-
-  -- the same without memory
-  abbrev pub KeepsSeatOr : {A : Type 0} → Console X C → Console X C → Result A AllocError → Type 0
-  KeepsSeatOr old new (Ok answer) = ⊤
-  KeepsSeatOr old new (Err error) = IsSeatKept old new
 
   -- without memory nothing was called
   abbrev pub KeepsOr : {A : Type 0} → Console X C → Console X C → Result A AllocError → Type 0

@@ -1,10 +1,12 @@
 -- A debugger that follows a run, row by row of its feed.
-use Rattle.std.specs.Prelude.{ℕ, ◌≡◌, ◌+◌, Bool, true, ◌∷◌, Ok}
+use Rattle.std.specs.Prelude.{ℕ, ◌≡◌, ◌+◌, Bool, true, List, ◌∷◌, Ok}
 use Rattle.sfc_events.specs.declared.command.TraceRow.{TraceRow}
+use Rattle.sfc_plant.specs.Plants.{PlantData}
 use Rattle.sfc_control.specs.sfc_debug.Agreement.{Agrees}
 use Rattle.sfc_control.specs.sfc_debug.Histories.{CommandHistory, TimedCommand}
 use Rattle.sfc_control.specs.sfc_debug.Openings.{past_of}
 use Rattle.sfc_control.specs.sfc_debug.Past.{debug_past}
+use Rattle.sfc_control.specs.sfc_debug.declared.break_condition.BreakCondition.{BreakCondition}
 use Rattle.sfc_control.specs.sfc_debug.declared.opening.DebugOpening.{DebugOpening}
 use Rattle.sfc_control.specs.sfc_debug.Steered.{Steered, steered_by}
 use Rattle.sfc_control.specs.sfc_debug.declared.debugger.Debugger.{Debugger}
@@ -45,6 +47,9 @@ pub record Follows (old new : Follower) (row : TraceRow) (h behind : CommandHist
   pub stays : is_level old ≡ true → row.number ≡ newest_in old + 1 → AnswersSo (steered_in old) h row → is_level new ≡ true
 
 -- ---- openings
+
+abbrev pub steered_on : PlantData → List BreakCondition → Steered
+steered_on plant table = record { plant = plant; table = table }
 
 -- it stands for these commands
 abbrev pub HasPast : Steered → DebugOpening → CommandHistory → Type 0

@@ -4,8 +4,7 @@ use Rattle.std.specs.Io.KnownBytes.{Appends, Consumes}
 use Rattle.sfc_base.specs.Writing.{AppendsFront}
 use Rattle.sfc_plant.specs.Plants.{PlantData}
 use Rattle.sfc_events.specs.declared.command.Command.{Command}
-use Rattle.sfc_events.specs.declared.command.Command.TheVariants.{BreakIf, End}
-use Rattle.sfc_events.specs.declared.command.Point.{Point}
+use Rattle.sfc_events.specs.declared.command.Command.TheVariants.{End}
 use Rattle.sfc_events.specs.declared.refusal.Refusal.{Refusal}
 use Rattle.sfc_events.specs.declared.refusal.Refusal.TheVariants.{Ended}
 use Rattle.sfc_control.specs.sfc_debug.declared.break_condition.BreakCondition.{BreakCondition}
@@ -13,19 +12,16 @@ use Rattle.sfc_control.specs.declared.call_error.CallError.{CallError}
 use Rattle.sfc_control.specs.declared.call_error.CallError.TheVariants.{Refused, AuditMismatch}
 use Rattle.sfc_control.specs.declared.entry.Entry.{Entry}
 use Rattle.sfc_control.specs.declared.receipt.Receipt.{Receipt}
-use Rattle.sfc_control.specs.Seats.{IsCalled, IsCalledWhen}
-use Rattle.sfc_control.specs.Tables.{Begins}
+use Rattle.sfc_control.specs.Seats.{IsCalled}
 use Rattle.sfc_replay.specs.Reading.{Device, IsFront}
 use Rattle.sfc_replay.specs.sfc_output.Commands.{refusal_line}
 use Rattle.sfc_replay.specs.sfc_script.Lines.{lines_of}
-use Rattle.sfc_replay.specs.sfc_script.Commands.{Conditional}
-use Rattle.sfc_replay.specs.sfc_script.Scripts.{ConditionReads}
-use Rattle.sfc_run.specs.Asks.{Plain, RunLine, Waits, run_line}
+use Rattle.sfc_run.specs.Asks.{run_line}
 use Rattle.sfc_replay.specs.sfc_script.declared.session_line.SessionLine.{SessionLine}
 use Rattle.sfc_replay.specs.sfc_script.declared.session_line.SessionLine.TheVariants.{Skipped, Says, Faulty}
 use Rattle.sfc_run.specs.declared.console.Console.{Console}
 use Rattle.sfc_run.specs.declared.run_faults.RunFaults.{RunFaults}
-use Rattle.sfc_run.specs.Consoles.{IsKept, IsSeatKept, Keeps, KeepsLast, KeepsWaiting}
+use Rattle.sfc_run.specs.Consoles.{IsKept, Keeps, KeepsLast}
 use Rattle.sfc_run.specs.Faults.{both}
 use Rattle.sfc_run.specs.SessionText.{faulty_text}
 
@@ -91,32 +87,16 @@ scene console errors = record { console = console; errors = errors }
 abbrev pub Stays : {X C : Type 0} → Scene X C → Scene X C → Type 0
 Stays old new = IsKept old.console new.console × (new.errors ≡ old.errors)
 
--- the same, but for the clock
-abbrev pub StaysAt : {X C : Type 0} → Scene X C → Scene X C → Type 0
-StaysAt old new = IsSeatKept old.console new.console × (new.errors ≡ old.errors)
-
 -- A session reads lines, and tells refusals, by the names of a plant. The book under the lock was opened with a plant, a table of
--- conditions, which more may have joined, and a limit. The clock goes on as it may.
+-- conditions and a limit. The clock goes on as it may.
 module _ {X C : Type 0} (names plant : PlantData) (table : List BreakCondition) (limit : ℕ) (reads : C → ℤ → C → Type 0) where
   -- The seat called a command once, after some legal entries, at the instant that the clock read, and keeps its receipt.
   pub record Calls (command : Command) (old new : Console X C) (answer : Result Receipt CallError) : Type 0 where
     pub raw : ℤ
-    pub all : List BreakCondition
     pub entries : List Entry
-    pub begins : Begins table all
     pub read : reads old.clock raw new.clock
-    pub called : IsCalled plant all limit entries command raw old.seat new.seat answer
+    pub called : IsCalled plant table limit entries command raw old.seat new.seat answer
     pub kept : Keeps command old new answer
-
-  -- The same of a breakpoint at this point that waits for this condition, which joined the table behind all others.
-  pub record CallsWaiting (point : Point) (condition : BreakCondition) (old new : Console X C) (answer : Result Receipt CallError) : Type 0 where
-    pub raw : ℤ
-    pub all : List BreakCondition
-    pub entries : List Entry
-    pub begins : Begins table all
-    pub read : reads old.clock raw new.clock
-    pub called : IsCalledWhen plant all limit entries point condition raw old.seat new.seat answer
-    pub kept : KeepsWaiting condition.program point old new answer
 
   -- The line of this number was obeyed: where it is skipped nothing happens, where it is no command its number is told, and else its
   -- command is called, and told why where it is refused. And whether the writer failed at that.
@@ -127,27 +107,11 @@ module _ {X C : Type 0} (names plant : PlantData) (table : List BreakCondition) 
       (answer : Result Receipt CallError) × Calls command old.console new.console answer
       × Tells untold old.errors new.errors (answer_told names answer)
 
-  -- The same of a breakpoint that waits for a condition, by what its text adds to a table: a condition; nothing, where its program isn't
-  -- there, and then the command is refused; or it is none, and the line is no command.
-  abbrev pub ObeysWaiting : ℕ → Conditional → Option (List BreakCondition) → Scene X C → Scene X C → Bool → Type 0
-  ObeysWaiting number c None old new untold = Obeys number Faulty old new untold
-  ObeysWaiting number c (Some []) old new untold =
-      Obeys number (Says (BreakIf c.place.program c.place.point (record { 0 = 0 }))) old new untold
-  ObeysWaiting number c (Some (condition ∷ more)) old new untold =
-      (answer : Result Receipt CallError) × CallsWaiting c.place.point condition old.console new.console answer
-      × Tells untold old.errors new.errors (answer_told names answer)
-
-  -- what a line says was obeyed
-  abbrev pub ObeysLine : ℕ → RunLine → Scene X C → Scene X C → Bool → Type 0
-  ObeysLine number (Plain said) old new untold = Obeys number said old new untold
-  ObeysLine number (Waits c) old new untold =
-      (added : Option (List BreakCondition)) × ConditionReads names 0 c.place.program c.text added × ObeysWaiting number c added old new untold
-
   -- Lines were obeyed, in order, each once; they are numbered from this number on.
   abbrev pub ObeysAll : ℕ → List (List ℕ) → Scene X C → Scene X C → Bool → Type 0
   ObeysAll number [] old new untold = (new ≡ old) × (untold ≡ false)
   ObeysAll number (line ∷ lines) old new untold =
-      (mid : Scene X C) × (here : Bool) × (behind : Bool) × ObeysLine number (run_line names line) old mid here
+      (mid : Scene X C) × (here : Bool) × (behind : Bool) × Obeys number (run_line names line) old mid here
       × ObeysAll (number + 1) lines mid new behind × (untold ≡ here || behind)
 
   -- Memory was refused at a line, and nothing is told of it. If it is a command, this was not called, or called and refused.
@@ -158,25 +122,10 @@ module _ {X C : Type 0} (names plant : PlantData) (table : List BreakCondition) 
       Stays old new
       ⊎ ((error : CallError) × Calls command old.console new.console (Err error) × (new.errors ≡ old.errors))
 
-  -- the same at a breakpoint that waits for a condition
-  abbrev pub StopsWaiting : Conditional → Option (List BreakCondition) → Scene X C → Scene X C → Type 0
-  StopsWaiting c None old new = StopsAt Faulty old new
-  StopsWaiting c (Some []) old new = StopsAt (Says (BreakIf c.place.program c.place.point (record { 0 = 0 }))) old new
-  StopsWaiting c (Some (condition ∷ more)) old new =
-      StaysAt old new
-      ⊎ ((error : CallError) × CallsWaiting c.place.point condition old.console new.console (Err error) × (new.errors ≡ old.errors))
-
-  -- the same at what a line says; or its condition wasn't read
-  abbrev pub StopsLine : RunLine → Scene X C → Scene X C → Type 0
-  StopsLine (Plain said) old new = StopsAt said old new
-  StopsLine (Waits c) old new =
-      Stays old new
-      ⊎ ((added : Option (List BreakCondition)) × ConditionReads names 0 c.place.program c.text added × StopsWaiting c added old new)
-
   -- memory was refused before these lines, or at the first of them
   abbrev pub Stops : List (List ℕ) → Scene X C → Scene X C → Type 0
   Stops [] old new = Stays old new
-  Stops (line ∷ lines) old new = Stays old new ⊎ StopsLine (run_line names line) old new
+  Stops (line ∷ lines) old new = Stays old new ⊎ StopsAt (run_line names line) old new
 
   -- a front of the lines was obeyed, and then memory was refused
   pub record ObeysFront (number : ℕ) (lines : List (List ℕ)) (old new : Scene X C) (untold : Bool) : Type 0 where
@@ -209,12 +158,10 @@ module _ {X C : Type 0} (names plant : PlantData) (table : List BreakCondition) 
   -- End was called once, and told why where it is refused, unless one was accepted before, or memory was refused for that.
   pub record EndsBy (old new : Scene X C) (faults : RunFaults) : Type 0 where
     pub raw : ℤ
-    pub all : List BreakCondition
     pub entries : List Entry
     pub answer : Result Receipt CallError
-    pub begins : Begins table all
     pub read : reads old.console.clock raw new.console.clock
-    pub called : IsCalled plant all limit entries End raw old.console.seat new.console.seat answer
+    pub called : IsCalled plant table limit entries End raw old.console.seat new.console.seat answer
     pub kept : KeepsLast old.console new.console answer
     pub told : TellsFor faults.memory faults.untold old.errors new.errors (end_told names answer)
     pub none_else : (faults.read ≡ false) × (faults.write ≡ false) × (faults.mismatch ≡ false) × (faults.faulted ≡ false)

@@ -1,5 +1,5 @@
 -- What is printed of the feed, and what is told beside it.
-use Rattle.std.specs.Prelude.{ℕ, ◌≡◌, Bool, true, false, List, [], ◌∷◌, ◌++◌, Option, Result, OnOk, is_some, if◌then◌else◌}
+use Rattle.std.specs.Prelude.{ℕ, ◌≡◌, Bool, true, false, List, [], ◌∷◌, ◌++◌, Option, Result, OnOk, if◌then◌else◌, is_some}
 use mathlib.Core.List.{IsPrefix}
 use Rattle.std.specs.Io.KnownBytes.{Appends}
 use Rattle.sfc_base.specs.Writing.{AppendsFront, Writes}
@@ -10,11 +10,12 @@ use Rattle.sfc_control.specs.Tails.{taken, coming}
 use Rattle.sfc_control.specs.sfc_debug.Agreement.{Agrees}
 use Rattle.sfc_control.specs.sfc_debug.Histories.{CommandHistory}
 use Rattle.sfc_control.specs.sfc_debug.Steered.{Steered, steered_by}
+use Rattle.sfc_control.specs.sfc_debug.declared.break_condition.BreakCondition.{BreakCondition}
 use Rattle.sfc_control.specs.sfc_debug.Tracing.{is_wanted}
 use Rattle.sfc_control.specs.sfc_debug.declared.trace_mask.TraceMask.{TraceMask}
 use Rattle.sfc_replay.specs.sfc_output.Commands.{row_line}
 use Rattle.sfc_run.specs.Alarms.{AreTold, Hears, rows_heard}
-use Rattle.sfc_run.specs.Following.{debugger_in, steered_in}
+use Rattle.sfc_run.specs.Following.{debugger_in, steered_in, steered_on}
 use Rattle.sfc_run.specs.Recording.{IsNote, end_note}
 use Rattle.sfc_run.specs.Resuming.{IsReady}
 use Rattle.sfc_run.specs.Screens.{before_in}
@@ -54,9 +55,9 @@ pub record GoesOn (watch : Watch) : Type 0 where
   pub ready : IsReady (steered_of watch) watch.resumption
   pub alike : steered_by (before_in watch.alarms.screen) ≡ steered_of watch
 
--- and it follows a run of this plant
-abbrev pub FollowsRun : PlantData → Watch → Type 0
-FollowsRun plant watch = ((steered_of watch).plant ≡ plant) × GoesOn watch
+-- and it follows a run of this plant, with this table of conditions
+abbrev pub FollowsRun : PlantData → List BreakCondition → Watch → Type 0
+FollowsRun plant table watch = (steered_of watch ≡ steered_on plant table) × GoesOn watch
 
 -- The lines of rows, their alarms and what is shown of them stand behind the texts.
 pub record Puts (old new : Watch) (rows : List TraceRow) (before after : Texts) : Type 0 where

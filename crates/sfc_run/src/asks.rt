@@ -1,10 +1,9 @@
-//! What a session leaves for the thread that prints: lines that ask how all stands, and conditions.
+//! Lines of a session that ask how all stands, on their way to the thread that prints.
 
 ghost use Rattle.std.specs.Prelude.{◌≡◌};
 ghost use Rattle.sfc_control.specs.sfc_core.Agreement.{plant_of};
 ghost use Rattle.sfc_run.specs.Asks as rules;
 
-use crate::growth::Growth;
 use crate::sfc_core::resource::Resource;
 use crate::sfc_script::session_line::{SessionLine, read_session_line};
 use crate::sfc_script::split::first_word;
@@ -16,12 +15,10 @@ use std::sync::Wait;
 /// How many lines may wait.
 const ROOM: usize = 64;
 
-/// Lines that ask and wait for their answers, and a condition that waits. Where 64 lines wait, or memory is refused, a line is lost.
+/// Lines that ask and wait for their answers. Where 64 wait, or memory is refused, a line is lost.
 #[derive(Drop)]
 pub struct Asks {
     lines: ArrayQueue<Vec<u8>>,
-    /// The condition.
-    pub growth: Growth,
 }
 
 // Whether a word asks how all stands, in any case of its letters.
@@ -48,11 +45,10 @@ pub fn is_asking(line: &[u8]) -> bool
     }
 }
 
-/// What a line of the session of a run says that sets no breakpoint with a condition: one that asks says nothing to the run, and any other
-/// what `read_session_line` says.
-#[tactic(auto, unfolding(crate::specs::Asks::plain_line))]
-pub fn read_plain_line(resource: &Resource, line: &[u8]) -> SessionLine
-    ensures { result ≡ rules.plain_line (plant_of resource.now) line.now }
+/// What a line of the session of a run says: one that asks says nothing to the run, and any other what `read_session_line` says.
+#[tactic(auto, unfolding(crate::specs::Asks::run_line))]
+pub fn read_run_line(resource: &Resource, line: &[u8]) -> SessionLine
+    ensures { result ≡ rules.run_line (plant_of resource.now) line.now }
 {
     if is_asking(line) {
         SessionLine::Skipped
@@ -65,8 +61,7 @@ impl Asks {
     /// None waits. The one error is that memory was refused.
     pub fn new(alloc: Global) -> Result<Asks, AllocError> {
         let lines = ArrayQueue::new(alloc, ROOM)?;
-        let growth = Growth::new(alloc)?;
-        Ok(Asks { lines, growth })
+        Ok(Asks { lines })
     }
 
     /// The line waits then, where it asks, and there is room and memory for it.

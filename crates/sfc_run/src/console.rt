@@ -1,22 +1,19 @@
 //! A seat whose commands a session says.
 
 ghost use Rattle.std.specs.Prelude.{◌≡◌, ◌++◌, ◌∷◌, [], IfOk, List, Result, ℤ};
-ghost use Rattle.sfc_control.specs.sfc_debug.declared.break_condition.BreakCondition.{BreakCondition};
 ghost use Rattle.sfc_control.specs.declared.call_error.CallError.{CallError};
 ghost use Rattle.sfc_control.specs.declared.entry.Entry.{Entry};
 ghost use Rattle.sfc_control.specs.declared.receipt.Receipt.{Receipt};
-ghost use Rattle.sfc_control.specs.Seats.{number, IsCalled, IsCalledWhen};
-ghost use Rattle.sfc_control.specs.Tables.{Begins};
-ghost use Rattle.sfc_run.specs.Consoles.{Keeps, KeepsOr, KeepsSeatOr, KeepsWaiting, Ends};
+ghost use Rattle.sfc_control.specs.Seats.{number, IsCalled};
+ghost use Rattle.sfc_run.specs.Consoles.{Keeps, KeepsOr, Ends};
 
-use crate::sfc_debug::break_condition::BreakCondition;
 use sfc_control::call_error::CallError;
 use sfc_control::clock::Clock;
 use sfc_control::controller::Controller;
 use sfc_control::opened_with::OpenedWith;
 use sfc_control::receipt::Receipt;
 use sfc_control::seat::Seat;
-use sfc_events::command::{Command, Point};
+use sfc_events::command::Command;
 use std::alloc::{AllocError, Global};
 use std::sync::Wait;
 use std::sync::ledger::Ledger;
@@ -55,9 +52,8 @@ impl<L: OpenedWith, C: Clock> Console<L, C> {
         command: Command,
     ) -> Result<Result<Receipt, CallError>, AllocError>
         ensures number { number self.new.seat ≡ number self.old.seat }
-        ensures called { IfOk result (λ answer. (raw : ℤ) × (all : List BreakCondition) × (es : List Entry) × Begins L.table all
-            × C.reads self.old.clock raw self.new.clock
-            × IsCalled L.plant all L.limit es command raw self.old.seat self.new.seat answer) }
+        ensures called { IfOk result (λ answer. (raw : ℤ) × (es : List Entry) × C.reads self.old.clock raw self.new.clock
+            × IsCalled L.plant L.table L.limit es command raw self.old.seat self.new.seat answer) }
         ensures kept { IfOk result (λ answer. Keeps command self.old self.new answer) }
         ensures nothing { KeepsOr self.old self.new result }
     {
@@ -69,38 +65,12 @@ impl<L: OpenedWith, C: Clock> Console<L, C> {
         Ok(answer)
     }
 
-    /// The same of a breakpoint at a point that waits for a condition, as `Seat::break_when` sets it. The error is that memory was refused,
-    /// for the receipt or for the condition; then nothing was called, but the clock may have been read.
-    pub fn break_when<R: Wait>(
-        &mut self,
-        rt: &R,
-        controller: &Controller<L>,
-        point: Point,
-        condition: BreakCondition,
-    ) -> Result<Result<Receipt, CallError>, AllocError>
-        ensures number { number self.new.seat ≡ number self.old.seat }
-        ensures called { IfOk result (λ answer. (raw : ℤ) × (all : List BreakCondition) × (es : List Entry) × Begins L.table all
-            × C.reads self.old.clock raw self.new.clock
-            × IsCalledWhen L.plant all L.limit es point condition raw self.old.seat self.new.seat answer) }
-        ensures kept { IfOk result (λ answer. KeepsWaiting condition.program point self.old self.new answer) }
-        ensures nothing { KeepsSeatOr self.old self.new result }
-    {
-        self.receipts.reserve(1)?;
-        let answer = self
-            .seat
-            .break_when(rt, controller, point, condition, &mut self.clock)?;
-        if let Ok(receipt) = answer {
-            self.receipts.push_reserved(receipt);
-        }
-        Ok(answer)
-    }
-
     /// The end of a session: End is called, whether there is memory for its receipt or not. Without memory the receipt isn't kept, and the
     /// audit then goes by the seat's count.
     pub fn end<R: Wait>(&mut self, rt: &R, controller: &Controller<L>) -> Result<(), CallError>
         ensures number { number self.new.seat ≡ number self.old.seat }
-        ensures called { (raw : ℤ) × (all : List BreakCondition) × (es : List Entry) × (answer : Result Receipt CallError) × Begins L.table all
-            × C.reads self.old.clock raw self.new.clock × IsCalled L.plant all L.limit es Command.End raw self.old.seat self.new.seat answer
+        ensures called { (raw : ℤ) × (es : List Entry) × (answer : Result Receipt CallError) × C.reads self.old.clock raw self.new.clock
+            × IsCalled L.plant L.table L.limit es Command.End raw self.old.seat self.new.seat answer
             × Ends self.old self.new answer result }
     {
         let room = self.receipts.reserve(1).is_ok();

@@ -1,20 +1,17 @@
 //! A debugger that follows a run.
 
-ghost use Rattle.std.specs.Prelude.{◌≡◌, ◌-◌, ◌+◌, ◌∷◌, OnOk, length, true};
+ghost use Rattle.std.specs.Prelude.{◌≡◌, ◌-◌, ◌+◌, ◌∷◌, true};
 ghost use Rattle.std.specs.Bool.{OnTrue, OnFalse};
 ghost use Rattle.sfc_control.specs.sfc_debug.Agreement.{Agrees};
 ghost use Rattle.sfc_control.specs.sfc_debug.Histories.{CommandHistory};
-ghost use Rattle.sfc_control.specs.sfc_debug.Longer.{NamesWithin, with_condition};
 ghost use Rattle.sfc_control.specs.sfc_debug.Openings.{IsOpeningFor};
 ghost use Rattle.sfc_control.specs.sfc_debug.Steered.{steered_by};
 ghost use Rattle.sfc_run.specs.Following.{AnswersSo, HasPast, command_of};
 
-use crate::sfc_debug::break_condition::BreakCondition;
 use crate::sfc_debug::debugger::Debugger;
 use crate::sfc_debug::opening::DebugOpening;
 use crate::sfc_debug::timed::Timed;
 use sfc_events::command::TraceRow;
-use std::alloc::AllocError;
 
 /// A debugger that is told each command that the feed of a run tells, and so stands as the run's own does: a replica, over which all may be
 /// asked that the run isn't to be disturbed for.
@@ -112,18 +109,6 @@ impl Follower {
     {
         go_on_from(&mut self.debugger, opening);
         self.is_level = true;
-    }
-
-    /// One more condition in the debugger's table, behind all others, as the run is to have it. The one error is that memory was refused.
-    pub fn add_condition(&mut self, condition: BreakCondition) -> Result<(), AllocError>
-        ensures newest { newest_in self.new ≡ newest_in self.old }
-        ensures level { is_level self.new ≡ is_level self.old }
-        ensures plant { (steered_in self.new).plant ≡ (steered_in self.old).plant }
-        ensures table { OnOk result ((steered_in self.new).table ≡ with_condition (steered_in self.old).table condition) }
-        ensures agrees { (h : CommandHistory) → NamesWithin (length (steered_in self.old).table) h → Agrees (debugger_in self.old) h →
-            OnOk result (Agrees (debugger_in self.new) h) }
-    {
-        self.debugger.add_condition(condition)
     }
 
     /// The number of the newest row; 0 before the first.

@@ -3,8 +3,7 @@
 //!
 //! - `alarms`: faults, hits, overruns and lost rows, which are told as they happen, over a debugger that follows the run (`follower`) and
 //!   by what was told of overruns (`overruns`) and of lost rows (`losses`).
-//! - `asks`: what a session leaves for the thread that prints: lines that ask how all stands, and conditions (`growth`); `answering`: what
-//!   such lines are answered.
+//! - `asks`: lines of a session that ask how all stands; `answering`: what they are answered.
 //! - `audit`: the close of a controller, and its line.
 //! - `console`: a seat whose commands a session says, with the receipts of those that were accepted.
 //! - `draining`: the end of the feed.
@@ -31,7 +30,6 @@ pub mod audit;
 pub mod console;
 pub mod draining;
 pub mod follower;
-pub mod growth;
 mod keeper;
 pub mod laws;
 pub mod losses;

@@ -107,8 +107,7 @@ fn print_some<W: Write, T: Write, F: Write>(
 
 /// Takes rows as they come and writes the line of each whose command is wanted: its number, and the line of its command. Beside it alarms
 /// are told, and behind the lines it is shown what has changed; before all of that commands are recorded, where they are. It ends once it is
-/// told that no more rows come, and none is left; a look that was begun behind that word is what it answers. It ends with `None` where a
-/// condition waits that the debuggers are to take over before more rows. Where none has come it waits
+/// told that no more rows come, and none is left; a look that was begun behind that word is what it answers. Where none has come it waits
 /// until its bell is rung, a tenth of a second at most. Lines that ask are answered behind the rows of a round. Where rows were lost, and none
 /// has come, the run is saved under its lock; behind the row of the newest command that stands behind that all goes on from there.
 ///
@@ -120,29 +119,25 @@ pub fn print_rows<L: OpenedWith, R: Wait, W: Write, T: Write, F: Write>(
     alloc: Global,
     printing: &mut Printing<W, T, F>,
     beside: &Beside<'_, L>,
-) -> Result<Option<Drained>, PrintFault>
-    requires { FollowsRun L.plant printing.old.watch }
-    ensures follows { FollowsRun L.plant printing.new.watch }
+) -> Result<Drained, PrintFault>
+    requires { FollowsRun L.plant L.table printing.old.watch }
+    ensures follows { FollowsRun L.plant L.table printing.new.watch }
     ensures lines { Prints W.contents T.contents F.contents printing.old printing.new result }
-    ensures known { IfOk result (λ drained. IsSome drained → IsPrefix (taken printing.old.watch.tail ++ coming printing.old.watch.tail)
+    ensures known { OnOk result (IsPrefix (taken printing.old.watch.tail ++ coming printing.old.watch.tail)
         (taken printing.new.watch.tail)) }
-    ensures rest { IfOk result (λ drained. IsSome drained → coming printing.new.watch.tail ≡ []) }
+    ensures rest { OnOk result (coming printing.new.watch.tail ≡ []) }
 {
     'rounds: for _ in rt.forever() {
-        if beside.asks.growth.is_waiting() {
-            return Ok(None);
-        }
         let ended = RowsEnded::of(beside.controller.bells());
         let some = print_some(alloc, printing, ended)?;
         let answers = answers_to(rt, alloc, &printing.watch.alarms, beside.asks);
         printing.answers.tell(&answers);
         if let Some(drained) = some.drained {
-            return Ok(Some(drained));
+            return Ok(drained);
         }
         let goes_on = some.some || printing.watch.alarms.follower.is_level();
-        let follower = &printing.watch.alarms.follower;
         let resumption = &mut printing.watch.resumption;
-        let is_saved = resumption.catch_up(rt, beside.controller, follower, goes_on);
+        let is_saved = resumption.catch_up(rt, beside.controller, goes_on);
         if !some.some && !is_saved {
             let bells = beside.controller.bells();
             bells.wait_for_rows(rt, Duration::from_millis(LONG));

@@ -8,12 +8,11 @@ ghost use Rattle.sfc_control.specs.Saved.{IsSavedAfter};
 ghost use Rattle.sfc_control.specs.sfc_debug.Openings.{IsOpeningFor};
 ghost use Rattle.sfc_control.specs.sfc_debug.Steered.{Steered, steered_by};
 ghost use Rattle.sfc_run.specs.Alarms.{Hears, IsSet};
-ghost use Rattle.sfc_run.specs.Following.{is_level, newest_in, steered_in};
+ghost use Rattle.sfc_run.specs.Following.{is_level, newest_in, steered_in, steered_on};
 ghost use Rattle.sfc_run.specs.Resuming.{IsReady};
 ghost use Rattle.sfc_run.specs.Screens.{before_in};
 
 use crate::alarms::{Alarms, Told, append_lost};
-use crate::follower::Follower;
 use crate::losses::append_known;
 use crate::sfc_debug::opening::DebugOpening;
 use sfc_control::controller::Controller;
@@ -82,33 +81,23 @@ impl Resumption {
         }
     }
 
-    /// Unless it goes on as it is, or something waits, what all commands leave is saved that the run has accepted so far, where the run has
-    /// the conditions of the follower; whether that was so. It waits for the lock of the run.
+    /// Unless it goes on as it is, or something waits, what all commands leave is saved that the run has accepted so far; whether that was
+    /// so. It waits for the lock of the run.
     pub fn catch_up<L: OpenedWith, R: Wait>(
         &mut self,
         rt: &R,
         controller: &Controller<L>,
-        follower: &Follower,
         goes_on: bool,
     ) -> bool
-        requires plant { (steered_in follower.now).plant ≡ L.plant }
-        requires ready { IsReady (steered_in follower.now) self.old }
-        ensures { IsReady (steered_in follower.now) self.new }
+        requires { IsReady (steered_on L.plant L.table) self.old }
+        ensures { IsReady (steered_on L.plant L.table) self.new }
     {
         if goes_on || self.behind.is_some() {
             return false;
         }
-        let conditions = follower.debugger().conditions();
-        self.behind = controller.save(rt, &mut self.opening, conditions);
-        self.behind.is_some()
-    }
-
-    /// Nothing waits any more.
-    pub fn forget(&mut self)
-        ensures opening { opening_in self.new ≡ opening_in self.old }
-        ensures behind { behind_in self.new ≡ None }
-    {
-        self.behind = None;
+        let count = controller.save(rt, &mut self.opening);
+        self.behind = Some(count);
+        true
     }
 
     // Whether what waits was saved behind so many commands. Nothing waits any more then, nor where it was saved behind fewer.

@@ -1,11 +1,10 @@
 //! The threads of a run: a worker for each task, and one that prints; the session is held in the thread that has the run.
 
-ghost use Rattle.std.specs.Prelude.{◌≡◌, Err, IfOk, IfSome, OnOk, length};
+ghost use Rattle.std.specs.Prelude.{◌≡◌, IfOk, IfSome, length};
 ghost use Rattle.std.specs.Thread.{IsSync};
-ghost use Rattle.sfc_run.specs.Printing.{FollowsRun, GoesOn, steered_of};
+ghost use Rattle.sfc_run.specs.Printing.{FollowsRun};
 
 use crate::console::Console;
-use crate::growth::{Growth, condition_of};
 use crate::keeper::{Keeper, Over};
 use crate::pace::Pace;
 use crate::printing::{Beside, PrintFault, Printing, print_rows};
@@ -217,47 +216,6 @@ struct Board<'b, L: OpenedWith, R: Wait> {
     beside: Beside<'b, L>,
 }
 
-// The debuggers take over a condition that waits, if there is one.
-fn take_condition<R: Wait, W: Write, T: Write, F: Write>(
-    rt: &R,
-    alloc: Global,
-    printing: &mut Printing<W, T, F>,
-    growth: &Growth,
-) -> Result<(), PrintFault>
-    requires { GoesOn printing.old.watch }
-    ensures ready { OnOk result (GoesOn printing.new.watch) }
-    ensures plant { OnOk result ((steered_of printing.new.watch).plant ≡ (steered_of printing.old.watch).plant) }
-    ensures err { result ≡ Err PrintFault.Write → ⊥ }
-{
-    if let Some(given) = growth.take(rt) {
-        let plant = printing.watch.alarms.follower.debugger().resource().plant();
-        if let Some(condition) = condition_of(alloc, plant, given.conditional())? {
-            printing.watch.grow(alloc, condition)?;
-        }
-    }
-    growth.tell_taken();
-    Ok(())
-}
-
-// Prints until no more rows come. Where a condition waits meanwhile the debuggers take it over first.
-fn print_on<L: OpenedWith, R: Wait, W: Write, T: Write, F: Write>(
-    rt: &R,
-    alloc: Global,
-    printing: &mut Printing<W, T, F>,
-    beside: &Beside<'_, L>,
-) -> Result<(), PrintFault>
-    requires { FollowsRun L.plant printing.old.watch }
-    ensures { (result ≡ Err PrintFault.Memory → ⊥) → FollowsRun L.plant printing.new.watch }
-{
-    'parts: for _ in rt.forever() {
-        if print_rows(rt, alloc, printing, beside)?.is_some() {
-            return Ok(());
-        }
-        take_condition(rt, alloc, printing, &beside.asks.growth)?;
-    }
-    unreachable!()
-}
-
 // What printing comes to. Behind a fault of the writer of lines alarms are told all the same: no command has a line then.
 fn print_all<L: OpenedWith, R: Wait, W: Write, T: Write, F: Write>(
     rt: &R,
@@ -265,17 +223,17 @@ fn print_all<L: OpenedWith, R: Wait, W: Write, T: Write, F: Write>(
     printing: &mut Printing<W, T, F>,
     beside: &Beside<'_, L>,
 ) -> RunFaults
-    requires { FollowsRun L.plant printing.old.watch }
+    requires { FollowsRun L.plant L.table printing.old.watch }
 {
-    let faults = match print_on(rt, alloc, printing, beside) {
-        Ok(()) => return RunFaults::none(),
+    let faults = match print_rows(rt, alloc, printing, beside) {
+        Ok(_) => return RunFaults::none(),
         Err(PrintFault::Memory) => return RunFaults::of_memory(),
         Err(PrintFault::Write) => RunFaults::of_write(),
     };
     printing.watch.wanted = TraceMask(0);
-    match print_on(rt, alloc, printing, beside) {
+    match print_rows(rt, alloc, printing, beside) {
         Err(PrintFault::Memory) => faults.with(RunFaults::of_memory()),
-        Ok(()) | Err(PrintFault::Write) => faults,
+        Ok(_) | Err(PrintFault::Write) => faults,
     }
 }
 
@@ -302,7 +260,7 @@ fn printed<L: OpenedWith, R: Wait, W: Write + Drop, T: Write + Drop, F: Write + 
     held: Option<Watch>,
     writers: Writers<W, T, F>,
 ) -> (W, RunFaults)
-    requires { IfSome held (λ watch. FollowsRun L.plant watch) }
+    requires { IfSome held (λ watch. FollowsRun L.plant L.table watch) }
 {
     let Writers {
         w,
@@ -360,7 +318,7 @@ fn print_beside<
     job: J,
 ) -> Option<(D, W, RunFaults)>
     requires job { J.pre job }
-    requires held { IfSome held (λ watch. FollowsRun L.plant watch) }
+    requires held { IfSome held (λ watch. FollowsRun L.plant L.table watch) }
     ensures { IfSome result (λ done. J.post job done.0) }
 {
     let Board { rt, alloc, beside } = board;
@@ -371,16 +329,12 @@ fn print_beside<
         |scope| -> Option<(D, W, RunFaults)>
             requires sync { IsSync R.row }
             requires job { J.pre job }
-            requires held { IfSome held (λ watch. FollowsRun L.plant watch) }
+            requires held { IfSome held (λ watch. FollowsRun L.plant L.table watch) }
             ensures { IfSome result (λ done. J.post job done.0) }
         {
             let printing = move || -> (W, RunFaults)
-                requires { IfSome held (λ watch. FollowsRun L.plant watch) }
-            {
-                let done = printed(rt, alloc, Beside { controller, asks }, held, writers);
-                asks.growth.end();
-                done
-            };
+                requires { IfSome held (λ watch. FollowsRun L.plant L.table watch) }
+            { printed(rt, alloc, Beside { controller, asks }, held, writers) };
             let Ok(child) = scope.spawn(printing) else {
                 return None;
             };
@@ -412,7 +366,7 @@ pub fn run_threads<
     printing: Printing<W, T, F>,
     streams: &mut Streams<'_, S, E>,
 ) -> Left<L, C, W>
-    requires { FollowsRun L.plant printing.watch }
+    requires { FollowsRun L.plant L.table printing.watch }
     ensures { IfSome result.ends (λ ends. length ends.items ≡ length posts.entry.items) }
 {
     let Seated { console, keeper } = seated;

@@ -1,10 +1,9 @@
 //! What is shown of a run where it changes.
 
-ghost use Rattle.std.specs.Prelude.{◌≡◌, ◌++◌, ◌∷◌, ◌||◌, List, ℕ, Ok, OnOk, length, true};
+ghost use Rattle.std.specs.Prelude.{◌≡◌, ◌++◌, ◌∷◌, ◌||◌, List, ℕ, Ok, OnOk, true};
 ghost use Rattle.std.specs.Bool.{OnTrue};
 ghost use Rattle.sfc_control.specs.sfc_debug.Agreement.{Agrees};
 ghost use Rattle.sfc_control.specs.sfc_debug.Histories.{CommandHistory};
-ghost use Rattle.sfc_control.specs.sfc_debug.Longer.{NamesWithin, with_condition};
 ghost use Rattle.sfc_control.specs.sfc_debug.Openings.{IsOpeningFor};
 ghost use Rattle.sfc_control.specs.sfc_debug.Steered.{steered_by};
 ghost use Rattle.sfc_replay.specs.sfc_output.Output as output;
@@ -13,7 +12,6 @@ ghost use Rattle.sfc_run.specs.Screens as rules;
 
 use crate::follower::{Follower, go_on_from};
 use crate::losses::append_known;
-use crate::sfc_debug::break_condition::BreakCondition;
 use crate::sfc_debug::debugger::Debugger;
 use crate::sfc_debug::opening::DebugOpening;
 use crate::sfc_debug::timed::Timed;
@@ -185,18 +183,6 @@ impl Screen {
         ensures before { before_in result ≡ before }
     {
         Screen { shows, before }
-    }
-
-    /// One more condition in the debugger's table, behind all others, as that of the follower has it. The one error is that memory was refused.
-    pub fn add_condition(&mut self, condition: BreakCondition) -> Result<(), AllocError>
-        ensures shows { self.new.shows ≡ self.old.shows }
-        ensures plant { (steered_by (before_in self.new)).plant ≡ (steered_by (before_in self.old)).plant }
-        ensures table { OnOk result ((steered_by (before_in self.new)).table ≡
-            with_condition (steered_by (before_in self.old)).table condition) }
-        ensures agrees { (h : CommandHistory) → NamesWithin (length (steered_by (before_in self.old)).table) h →
-            Agrees (before_in self.old) h → OnOk result (Agrees (before_in self.new) h) }
-    {
-        self.before.add_condition(condition)
     }
 
     // Tells the debugger the command of a row.

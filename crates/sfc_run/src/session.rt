@@ -7,32 +7,27 @@ ghost use Rattle.sfc_control.specs.sfc_debug.Agreement.{plant_of};
 ghost use Rattle.sfc_replay.specs.sfc_output.Commands.{refusal_line};
 ghost use Rattle.sfc_replay.specs.sfc_script.Arriving.{ended_line};
 ghost use Rattle.sfc_replay.specs.sfc_script.Lines.{lines_of};
-ghost use Rattle.sfc_replay.specs.sfc_script.Private.Reading.{as_conditional};
-ghost use Rattle.sfc_run.specs.Asks.{Plain, Waits, run_line};
+ghost use Rattle.sfc_run.specs.Asks.{run_line};
 ghost use Rattle.sfc_replay.specs.sfc_script.declared.session_line.SessionLine.TheVariants.{Says};
 ghost use Rattle.sfc_run.specs.Holding as holding;
 ghost use Rattle.sfc_run.specs.Holding.{EndsBy, Holds, ObeysLines, Tells, error_told, scene};
 ghost use Rattle.sfc_run.specs.SessionText as text;
 ghost use Rattle.sfc_run.specs.Working.Walking as walking;
-ghost use Rattle.sfc_run.specs.Working.Walking.{ObeysLineOr, ObeysOr, ObeysAllOr, PiecesOr, TellsEnd, TellsOr, WaitsOr, WalksOr};
+ghost use Rattle.sfc_run.specs.Working.Walking.{ObeysOr, ObeysAllOr, PiecesOr, TellsEnd, TellsOr, WalksOr};
 
-use crate::asks::{Asks, read_plain_line};
+use crate::asks::{Asks, read_run_line};
 use crate::console::Console;
 use crate::run_faults::RunFaults;
-use crate::sfc_debug::break_condition::BreakCondition;
 use crate::sfc_debug::debugger::Debugger;
 use crate::sfc_output::command::append_refusal;
-use crate::sfc_script::command::{Conditional, read_conditional};
-use crate::sfc_script::condition::read_condition;
 use crate::sfc_script::laws::first_line_stays;
-use crate::sfc_script::script::ScriptError;
 use crate::sfc_script::session_line::SessionLine;
 use sfc_base::write_fault::put_all;
 use sfc_control::call_error::CallError;
 use sfc_control::clock::Clock;
 use sfc_control::controller::Controller;
 use sfc_control::opened_with::OpenedWith;
-use sfc_events::command::{Command, CondId, Point};
+use sfc_events::command::Command;
 use sfc_events::refusal::Refusal;
 use sfc_page::append::{append, append_number};
 use sfc_replay::arriving::ArrivingLines;
@@ -58,7 +53,7 @@ pub struct Desk<'a, L: OpenedWith, R: Wait> {
     pub controller: &'a Controller<L>,
     /// The debugger that gives the names. It is told nothing.
     pub names: &'a Debugger,
-    /// Where lines wait that ask how all stands, and conditions.
+    /// Where lines wait that ask how all stands.
     pub asks: &'a Asks,
 }
 
@@ -144,74 +139,6 @@ fn obey_command<'a, L: OpenedWith, R: Wait, C: Clock, E: Write>(
     }
 }
 
-// Sets a breakpoint at a point that waits for a condition, and tells why it is refused; whether a fault of the writer was passed over. The
-// error is that memory was refused.
-fn obey_break<'a, L: OpenedWith, R: Wait, C: Clock, E: Write>(
-    desk: &Desk<'a, L, R>,
-    console: &mut Console<L, C>,
-    point: Point,
-    condition: BreakCondition,
-    errors: &mut E,
-) -> Result<bool, AllocError>
-    ensures number { number console.new.seat ≡ number console.old.seat }
-    ensures obeyed { WaitsOr (plant_of desk.now.names.now) L.plant L.table L.limit C.reads point condition
-        (scene console.old (E.contents errors.old)) (scene console.new (E.contents errors.new)) result }
-{
-    match console.break_when(desk.rt, desk.controller, point, condition)? {
-        Ok(_) => Ok(false),
-        Err(error) => tell_call(desk.alloc, desk.names, error, errors),
-    }
-}
-
-// Obeys a breakpoint that waits for a condition, which the thread that prints takes over first; whether a fault of the writer was passed
-// over. The error is that memory was refused.
-fn obey_waiting<'a, L: OpenedWith, R: Wait, C: Clock, E: Write>(
-    desk: &Desk<'a, L, R>,
-    console: &mut Console<L, C>,
-    conditional: Conditional<'_>,
-    line_number: u64,
-    errors: &mut E,
-) -> Result<bool, AllocError>
-    ensures number { number console.new.seat ≡ number console.old.seat }
-    ensures obeyed { ObeysLineOr (plant_of desk.now.names.now) L.plant L.table L.limit C.reads line_number
-        (Waits (as_conditional conditional.entry))
-        (scene console.old (E.contents errors.old)) (scene console.new (E.contents errors.new)) result }
-{
-    let (plant, place) = (desk.names.resource().plant(), conditional.place);
-    match read_condition(desk.alloc, plant, 0, conditional, 0) {
-        Ok(Some(condition)) => {
-            desk.asks.growth.give(desk.rt, desk.alloc, conditional)?;
-            obey_break(desk, console, place.point, condition, errors)
-        }
-        Ok(None) => {
-            let command = Command::BreakIf(place.program, place.point, CondId(0));
-            obey_command(desk, console, command, errors)
-        }
-        Err(ScriptError::Faulty(_)) => tell_faulty(desk.alloc, line_number, errors),
-        Err(ScriptError::Memory) => Err(AllocError),
-    }
-}
-
-// Obeys what a line says that sets no breakpoint with a condition; whether a fault of the writer was passed over. The error is that memory
-// was refused.
-fn obey_plain<'a, L: OpenedWith, R: Wait, C: Clock, E: Write>(
-    desk: &Desk<'a, L, R>,
-    console: &mut Console<L, C>,
-    said: SessionLine,
-    line_number: u64,
-    errors: &mut E,
-) -> Result<bool, AllocError>
-    ensures number { number console.new.seat ≡ number console.old.seat }
-    ensures obeyed { ObeysOr (plant_of desk.now.names.now) L.plant L.table L.limit C.reads line_number said
-        (scene console.old (E.contents errors.old)) (scene console.new (E.contents errors.new)) result }
-{
-    match said {
-        SessionLine::Skipped => Ok(false),
-        SessionLine::Faulty => tell_faulty(desk.alloc, line_number, errors),
-        SessionLine::Says(command) => obey_command(desk, console, command, errors),
-    }
-}
-
 // Obeys a line without its end; whether a fault of the writer was passed over. The error is that memory was refused.
 fn obey_line<'a, L: OpenedWith, R: Wait, C: Clock, E: Write>(
     desk: &Desk<'a, L, R>,
@@ -221,17 +148,15 @@ fn obey_line<'a, L: OpenedWith, R: Wait, C: Clock, E: Write>(
     errors: &mut E,
 ) -> Result<bool, AllocError>
     ensures number { number console.new.seat ≡ number console.old.seat }
-    ensures obeyed { ObeysLineOr (plant_of desk.now.names.now) L.plant L.table L.limit C.reads line_number
+    ensures obeyed { ObeysOr (plant_of desk.now.names.now) L.plant L.table L.limit C.reads line_number
         (run_line (plant_of desk.now.names.now) line.now)
         (scene console.old (E.contents errors.old)) (scene console.new (E.contents errors.new)) result }
 {
     desk.asks.put(desk.rt, desk.alloc, line);
-    match read_conditional(desk.names.resource(), line) {
-        Some(conditional) => obey_waiting(desk, console, conditional, line_number, errors),
-        None => {
-            let said = read_plain_line(desk.names.resource(), line);
-            obey_plain(desk, console, said, line_number, errors)
-        }
+    match read_run_line(desk.names.resource(), line) {
+        SessionLine::Skipped => Ok(false),
+        SessionLine::Faulty => tell_faulty(desk.alloc, line_number, errors),
+        SessionLine::Says(command) => obey_command(desk, console, command, errors),
     }
 }
 

@@ -1,7 +1,6 @@
 //! What is read of a run.
 
 ghost use Rattle.std.specs.Prelude.{◌≡◌, ◌∷◌, ◌++◌, [], false, IfOk, IsSome, OnOk};
-ghost use Rattle.sfc_control.specs.sfc_debug.Longer.{with_condition};
 ghost use Rattle.sfc_control.specs.Tails.{coming};
 ghost use Rattle.sfc_run.specs.Alarms.{Hears};
 ghost use Rattle.sfc_run.specs.Printing.{Gathers, GoesOn, Reaches, line_if, steered_of};
@@ -9,7 +8,6 @@ ghost use Rattle.sfc_run.specs.Printing.{Gathers, GoesOn, Reaches, line_if, stee
 use crate::alarms::{Alarms, Told};
 use crate::draining::{Drained, Found, RowsEnded, look};
 use crate::resumption::Resumption;
-use crate::sfc_debug::break_condition::BreakCondition;
 use crate::sfc_debug::trace_mask::TraceMask;
 use crate::sfc_output::command::append_row;
 use sfc_control::tail::Tail;
@@ -81,25 +79,6 @@ impl Watch {
         self.alarms.take(alloc, &mut texts.told, row)?;
         self.resumption
             .resume(alloc, &mut texts.told, &mut self.alarms)
-    }
-
-    /// One more condition in the tables of the debuggers, behind all others, as the run is to have it. What waits to go on is forgotten: it
-    /// was saved without the condition.
-    ///
-    /// The one error is that memory was refused; then one of them may have it.
-    pub fn grow(&mut self, alloc: Global, condition: BreakCondition) -> Result<(), AllocError>
-        requires { GoesOn self.old }
-        ensures ready { OnOk result (GoesOn self.new) }
-        ensures plant { OnOk result ((steered_of self.new).plant ≡ (steered_of self.old).plant) }
-        ensures table { OnOk result ((steered_of self.new).table ≡ with_condition (steered_of self.old).table condition) }
-        ensures tail { self.new.tail ≡ self.old.tail }
-        ensures wanted { self.new.wanted ≡ self.old.wanted }
-    {
-        let copy = condition.copy(alloc)?;
-        self.alarms.follower.add_condition(condition)?;
-        self.alarms.screen.add_condition(copy)?;
-        self.resumption.forget();
-        Ok(())
     }
 
     /// Takes rows that have come, 256 at most, and puts their lines and what is told of them at the end of the texts; whether there were

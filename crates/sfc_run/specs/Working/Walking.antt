@@ -1,5 +1,5 @@
 -- Lines that came and were obeyed one after the other.
-use Rattle.std.specs.Prelude.{ℕ, ◌≡◌, ◌≤◌, ◌⊎◌, ◌+◌, Bool, true, false, ◌||◌, List, [], ◌∷◌, ◌++◌, length, ℤ, Option, None, Result, Ok, Err}
+use Rattle.std.specs.Prelude.{ℕ, ◌≡◌, ◌≤◌, ◌+◌, Bool, true, false, ◌||◌, List, [], ◌∷◌, ◌++◌, length, ℤ, Option, None, Result, Ok, Err}
 use Rattle.std.specs.declared.alloc.AllocError.{AllocError}
 use Rattle.sfc_plant.specs.Plants.{PlantData}
 use Rattle.sfc_control.specs.sfc_debug.declared.break_condition.BreakCondition.{BreakCondition}
@@ -8,14 +8,12 @@ use Rattle.sfc_replay.specs.declared.replay_error.ReplayError.{ReplayError}
 use Rattle.sfc_replay.specs.declared.replay_error.ReplayError.TheVariants.{Memory}
 use Rattle.sfc_replay.specs.sfc_script.Arriving.{ended_line}
 use Rattle.sfc_replay.specs.sfc_script.Lines.{lines_of}
-use Rattle.sfc_run.specs.Asks.{RunLine, run_line}
+use Rattle.sfc_run.specs.Asks.{run_line}
 use Rattle.sfc_replay.specs.sfc_script.declared.session_line.SessionLine.{SessionLine}
 use Rattle.sfc_run.specs.declared.run_faults.RunFaults.{RunFaults}
 use Rattle.sfc_run.specs.declared.session.Waiting.{Waiting}
 use Rattle.sfc_control.specs.declared.call_error.CallError.{CallError}
-use Rattle.sfc_control.specs.declared.receipt.Receipt.{Receipt}
-use Rattle.sfc_events.specs.declared.command.Point.{Point}
-use Rattle.sfc_run.specs.Holding.{CallsWaiting, Scene, StaysAt, Tells, TellsFor, answer_told, Obeys, ObeysAll, ObeysFront, ObeysLine, Stops, StopsAt, StopsLine, TakesFor, end_told}
+use Rattle.sfc_run.specs.Holding.{Scene, Tells, TellsFor, Obeys, ObeysAll, ObeysFront, Stops, StopsAt, TakesFor, end_told}
 
 -- Bytes begin with these lines, each with its end. The other lines are those of the rest, whatever comes behind them.
 abbrev pub Begins : List ℕ → List (List ℕ) → List ℕ → Type 0
@@ -58,25 +56,10 @@ pub record TellsEnd (names : PlantData) (error : CallError) (before after : Opti
       × (faults.ended ≡ false)
 
 module _ {X C : Type 0} (names plant : PlantData) (table : List BreakCondition) (limit : ℕ) (reads : C → ℤ → C → Type 0) where
-  -- what a line of a session says was obeyed, or memory was refused at it
+  -- a line was obeyed, or memory was refused at it
   abbrev pub ObeysOr : ℕ → SessionLine → Scene X C → Scene X C → Result Bool AllocError → Type 0
   ObeysOr number said old new (Ok untold) = Obeys names plant table limit reads number said old new untold
   ObeysOr number said old new (Err error) = StopsAt names plant table limit reads said old new
-
-  -- the same of a breakpoint at a point that waits for a condition
-  abbrev pub WaitsOr : Point → BreakCondition → Scene X C → Scene X C → Result Bool AllocError → Type 0
-  WaitsOr point condition old new (Ok untold) =
-      (answer : Result Receipt CallError) × CallsWaiting names plant table limit reads point condition old.console new.console answer
-      × Tells untold old.errors new.errors (answer_told names answer)
-  WaitsOr point condition old new (Err error) =
-      StaysAt old new
-      ⊎ ((refusal : CallError) × CallsWaiting names plant table limit reads point condition old.console new.console (Err refusal)
-      × (new.errors ≡ old.errors))
-
-  -- the same of what a line of the session of a run says
-  abbrev pub ObeysLineOr : ℕ → RunLine → Scene X C → Scene X C → Result Bool AllocError → Type 0
-  ObeysLineOr number said old new (Ok untold) = ObeysLine names plant table limit reads number said old new untold
-  ObeysLineOr number said old new (Err error) = StopsLine names plant table limit reads said old new
 
   -- all lines were obeyed, or memory was refused before them or at the first
   abbrev pub ObeysAllOr : ℕ → List (List ℕ) → Scene X C → Scene X C → Result Bool AllocError → Type 0
@@ -105,7 +88,7 @@ module _ {X C : Type 0} (names plant : PlantData) (table : List BreakCondition) 
     pub line : List ℕ
     pub behind : List ℕ
     pub next : Begins after.lines (line ∷ []) behind
-    pub stopped : StopsLine names plant table limit reads (run_line names line) mid new
+    pub stopped : StopsAt names plant table limit reads (run_line names line) mid new
 
   abbrev pub WalksOr : {A : Type 0} → Waiting → Waiting → Scene X C → Scene X C → Result A AllocError → Type 0
   WalksOr before after old new (Ok done) = WalksOn before.lines before after old new

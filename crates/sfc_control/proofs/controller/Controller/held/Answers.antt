@@ -1,6 +1,7 @@
-use Rattle.std.proofs.Common.{ℕ, length, ap, subst, ◌∙◌}
+use Rattle.std.proofs.Common.{ℕ, List, length, ap, subst, ◌∙◌}
 use Rattle.sfc_plant.specs.Plants.{PlantData}
-use Rattle.sfc_control.specs.Books.{accepted, table}
+use Rattle.sfc_debug.specs.declared.break_condition.BreakCondition.{BreakCondition}
+use Rattle.sfc_control.specs.Books.{accepted, plant}
 use Rattle.sfc_control.specs.Holding.{held_number}
 use Rattle.sfc_control.specs.LegalHistory.{IsLegal}
 use Rattle.sfc_control.proofs.controller.Controller.held.Goals as goal
@@ -9,9 +10,8 @@ pub returns : goal.returns
 returns g c =
     let locked = c.deref.result.now in
     let book = locked.book in (
-      table book,
       accepted book,
-      locked.table,
-      subst (λ (p : PlantData). IsLegal p (table book) (accepted book)) locked.plant book.legal,
+      subst (λ (p : PlantData). IsLegal p g.L.OpenedWith.table (accepted book)) locked.plant
+          (subst (λ (t : List BreakCondition). IsLegal (plant book) t (accepted book)) locked.table book.legal),
       c.entries.ensures.count ∙ ap (λ (n : ℕ). held_number n (length (accepted book))) locked.cut,
     )

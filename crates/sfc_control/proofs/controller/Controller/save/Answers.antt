@@ -1,9 +1,9 @@
-use Rattle.std.proofs.Common.{rules, ◌≡◌, List, sym, ◌∙◌, subst}
+use Rattle.std.proofs.Common.{◌≡◌, List, sym, subst}
 use Rattle.sfc_plant.specs.Plants.{PlantData}
 use Rattle.sfc_debug.specs.declared.break_condition.BreakCondition.{BreakCondition}
 use Rattle.sfc_debug.specs.Openings.{IsOpeningFor, past_of}
 use Rattle.sfc_debug.specs.Past.{debug_past}
-use Rattle.sfc_control.specs.Books.{accepted, plant, table}
+use Rattle.sfc_control.specs.Books.{accepted, plant}
 use Rattle.sfc_control.specs.LegalHistory.{IsLegal, commands_of}
 use Rattle.sfc_control.proofs.controller.Controller.save.Goals as goal
 
@@ -20,20 +20,14 @@ returns-clause-saved g c =
     let locked = c.deref.result.now in
     let book = locked.book in
     let es = accepted book in
-    let new = c.save.new.opening in
-    let given = c.args.conditions.now in
-    let same : table book ≡ given = sym c.conditions.ensures ∙ c.are_same.ensures.same (search rules) in (
+    let new = c.save.new.opening in (
       es,
       record {
-        legal = subst (λ (p : PlantData). IsLegal p given es) locked.plant
-            (subst (λ (t : List BreakCondition). IsLegal (plant book) t es) same book.legal);
+        legal = subst (λ (p : PlantData). IsLegal p g.L.OpenedWith.table es) locked.plant
+            (subst (λ (t : List BreakCondition). IsLegal (plant book) t es) locked.table book.legal);
         counted = c.save.ensures.count;
-        past = subst (λ (p : PlantData). past_of p new ≡ debug_past p given (commands_of es)) locked.plant
-            (subst (λ (t : List BreakCondition). past_of (plant book) new ≡ debug_past (plant book) t (commands_of es)) same c.save.ensures.past);
+        past = subst (λ (p : PlantData). past_of p new ≡ debug_past p g.L.OpenedWith.table (commands_of es)) locked.plant
+            (subst (λ (t : List BreakCondition). past_of (plant book) new ≡ debug_past (plant book) t (commands_of es)) locked.table
+            c.save.ensures.past);
       },
     )
-
-pub returns-then-are_same-clause-other : goal.returns-then-are_same-clause-other
-returns-then-are_same-clause-other g c none =
-    let locked = c.deref.result.now in
-    (table locked.book, locked.table, λ e. c.are_same.ensures.other (search rules) (c.conditions.ensures ∙ e))

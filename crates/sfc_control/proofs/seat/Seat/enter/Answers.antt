@@ -4,7 +4,7 @@ use Rattle.sfc_plant.specs.Plants.{PlantData}
 use Rattle.sfc_debug.specs.declared.break_condition.BreakCondition.{BreakCondition}
 use Rattle.sfc_control.specs.declared.entry.Entry.{Entry}
 use Rattle.sfc_control.specs.declared.given.AcceptedCall.{AcceptedCall}
-use Rattle.sfc_control.specs.Books.{accepted, first, plant, table}
+use Rattle.sfc_control.specs.Books.{accepted, first, plant}
 use Rattle.sfc_control.specs.Calls.{last_of, latest_cut}
 use Rattle.sfc_control.specs.Holding.{first_after, first_in}
 use Rattle.sfc_control.specs.LegalHistory.{IsLegal}
@@ -22,10 +22,10 @@ returns-clause-legal g c =
     let new = c.apply.new.self in
     let kept : KeptStands c.args.self.now.last (accepted old) = c.last_stands.ensures.0 (search rules) in
     let within : first_in (accepted old) ≤ length (accepted old) + 1 = omega (arith, old.history.placed, old.history.cut) in
-    let legal = subst (λ (p : PlantData). IsLegal p (table old) (accepted new)) (c.apply.ensures.plant ∙ c.args.locked.now.plant)
-    (subst (λ (t : List BreakCondition). IsLegal (plant new) t (accepted new)) c.apply.ensures.table new.legal) in
-    both_stand g.L.OpenedWith.plant (table old) c.args.self.now.last (accepted old) c.in-Ok.receipt within kept
-    (subst (λ (es : List Entry). IsLegal g.L.OpenedWith.plant (table old) es) c.in-Ok.ensures.accepted legal) c.in-Ok.ensures.index
+    let legal = subst (λ (p : PlantData). IsLegal p g.L.OpenedWith.table (accepted new)) (c.apply.ensures.plant ∙ c.args.locked.now.plant)
+    (subst (λ (t : List BreakCondition). IsLegal (plant new) t (accepted new)) (c.apply.ensures.table ∙ c.args.locked.now.table) new.legal) in
+    both_stand g.L.OpenedWith.plant g.L.OpenedWith.table c.args.self.now.last (accepted old) c.in-Ok.receipt within kept
+    (subst (λ (es : List Entry). IsLegal g.L.OpenedWith.plant g.L.OpenedWith.table es) c.in-Ok.ensures.accepted legal) c.in-Ok.ensures.index
 
 pub returns-clause-put : goal.returns-clause-put
 returns-clause-put g c =
@@ -59,12 +59,12 @@ invariant_of-self-clause-met g c =
     let r = c.in-Ok.receipt in
     let kept : KeptStands last (accepted old) = c.last_stands.ensures.0 (search rules) in
     let within : first_in (accepted old) ≤ length (accepted old) + 1 = omega (arith, old.history.placed, old.history.cut) in
-    let legal = subst (λ (p : PlantData). IsLegal p (table old) (accepted new)) (c.apply.ensures.plant ∙ c.args.locked.now.plant)
-    (subst (λ (t : List BreakCondition). IsLegal (plant new) t (accepted new)) c.apply.ensures.table new.legal) in
-    let both : BothStand g.L.OpenedWith.plant (table old) last r =
-    both_stand g.L.OpenedWith.plant (table old) last (accepted old) r within kept
-    (subst (λ (es : List Entry). IsLegal g.L.OpenedWith.plant (table old) es) c.in-Ok.ensures.accepted legal) c.in-Ok.ensures.index in
-    let below : last_index last < r.index = rises_from g.L.OpenedWith.plant (table old) last r both in
+    let legal = subst (λ (p : PlantData). IsLegal p g.L.OpenedWith.table (accepted new)) (c.apply.ensures.plant ∙ c.args.locked.now.plant)
+    (subst (λ (t : List BreakCondition). IsLegal (plant new) t (accepted new)) (c.apply.ensures.table ∙ c.args.locked.now.table) new.legal) in
+    let both : BothStand g.L.OpenedWith.plant g.L.OpenedWith.table last r =
+    both_stand g.L.OpenedWith.plant g.L.OpenedWith.table last (accepted old) r within kept
+    (subst (λ (es : List Entry). IsLegal g.L.OpenedWith.plant g.L.OpenedWith.table es) c.in-Ok.ensures.accepted legal) c.in-Ok.ensures.index in
+    let below : last_index last < r.index = rises_from g.L.OpenedWith.plant g.L.OpenedWith.table last r both in
     let earlier : c.args.self.now.first < r.index = omega (arith, below, c.args.self.now.met) in
     let low : first old ≤ r.index = omega (arith, old.history.placed, c.in-Ok.ensures.index) in
     rw (c.max-self.ensures, c.first-cut.ensures) (met_after c.args.command c.args.self.now.first (first old) (first new) r.index earlier low c.in-Ok.ensures.first)
