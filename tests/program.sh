@@ -660,10 +660,15 @@ refused 40 Ended" ] && [ "$(sed 's/T#[^ ]* //' "$work/out")" = "1 EPOCH
 3 END
 audit ok 3" ]
 note $? "lines that are no commands, refusals, an epoch, and no second END"
-live $'BREAK Lamp1 STEP On WHEN TRUE\r\nread lamp\r\n' --trace 64 "$work/edge.chart"
-ends 0 && says "script line 1" && [ "$(sed 's/T#[^ ]* //' "$work/out")" = "1 READ Lamp FALSE
-audit ok 2" ]
-note $? "a condition is no command of a session, and CR LF ends a line"
+live $'break lamp1 step on when true or On.X\r\nread lamp\r\nBREAK Lamp1 STEP On WHEN 1\nBREAK None STEP On WHEN TRUE
+BREAK Lamp1 STEP None WHEN TRUE\nBREAK Lamp1 STEP On WHEN On.T > T#1s\n' --trace 80 "$work/edge.chart"
+ends 0 && [ "$(cat "$work/err")" = "script line 3
+refused 32 UnknownProgram
+refused 37 NoSuchPoint" ] && [ "$(sed 's/T#[^ ]* //' "$work/out")" = "1 BREAK Lamp1 STEP On WHEN TRUE OR On.X
+2 READ Lamp FALSE
+3 BREAK Lamp1 STEP On WHEN On.T > T#1s
+audit ok 4" ]
+note $? "breakpoints that wait for conditions, one that is none, and CR LF ends a line"
 "$program" run --trace 0 "$work/edge.chart" <"$work" >"$work/out" 2>"$work/err"
 status=$?
 ends 3 && says "read fault" && [ "$(cat "$work/out")" = "audit ok 1" ]

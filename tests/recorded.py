@@ -75,6 +75,8 @@ LINES = [
     "RELEASE Count", "FORCE Divide1.n -{}", "RELEASE divide1.N", "FORCE Long T#-1d_2h_{}ms", "READ Lamp", "READ Divide1.n", "READ Long",
     "RESET Divide1", "RESET Blink1", "RESET Divide2", "STOP", "SINGLE Main T#20ms", "SINGLE Fast T#{}ms", "SINGLE Edge T#0s", "GO", "GO",
     "BREAK Divide1 STEP Share", "UNBREAK Divide1 STEP Share", "BREAK Divide1 ACTION Work", "UNBREAK Divide1 ACTION Work",
+    "BREAK Divide1 STEP Share WHEN n > {}", "BREAK Divide1 TRANSITION 1 WHEN 7 / Parts > 0", "BREAK Blink1 STEP Lit WHEN NOT Held OR Dark.T > T#{}ms",
+    "BREAK Divide1 STEP Nowhere WHEN TRUE", "BREAK Divide1 STEP Share WHEN n",
     "BREAK Divide1 TRANSITION Done", "UNBREAK Divide1 TRANSITION 2", "BREAK Blink1 ACTION Lamp", "UNBREAK Blink1 ACTION Lamp", "EPOCH",
     "no command", "INPUT Nowhere 1", "SCAN Main",
 ]

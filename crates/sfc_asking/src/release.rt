@@ -1,7 +1,12 @@
 //! When a task is scanned next.
 
+use crate::sfc_debug::debugger::Debugger;
+use crate::sfc_debug::mode::Mode;
+use sfc_base::ids::TaskId;
+use sfc_events::event::Event;
+use sfc_events::refusal::Refusal;
 use sfc_page::append::{append, append_time};
-use std::alloc::AllocError;
+use std::alloc::{AllocError, Global};
 
 /// When a task is scanned next.
 #[derive(Clone, Copy, Debug, PartialEq, Eq)]
@@ -32,4 +37,34 @@ impl Release {
             Release::Never => append(out, b"ended"),
         }
     }
+}
+
+// What a scan of the task would be refused for tells.
+fn release_by(refused: Option<Refusal>) -> Release {
+    match refused {
+        None => Release::First,
+        Some(Refusal::Yield(_)) => Release::Waits,
+        Some(Refusal::NotDue(Some(next))) => Release::Next(next),
+        Some(Refusal::NotDue(None)) => Release::Unknown,
+        Some(_) => Release::Never,
+    }
+}
+
+// When the task of this number is scanned next.
+fn release_of(debugger: &Debugger, number: usize) -> Release {
+    if debugger.mode() == Mode::Ended {
+        return Release::Never;
+    }
+    let scan = Event::Scan(TaskId(number as u8));
+    release_by(debugger.resource().refuse(scan, debugger.run_instant()))
+}
+
+/// When each task is scanned next, as of the last accepted command: of a halted resource, once it goes on. The one error is that memory was
+/// refused.
+pub fn releases(alloc: Global, debugger: &Debugger) -> Result<Vec<Release>, AllocError> {
+    let mut found = Vec::new(alloc);
+    'tasks: for number in 0..debugger.resource().plant().tasks().len() {
+        found.push(release_of(debugger, number))?;
+    }
+    Ok(found)
 }

@@ -34,7 +34,7 @@ singles_there plant h singles e = e
 
 module _ (plant : PlantData) (h : History) (event : Event) (t : ℤ) (named : Option Refusal)
     (e : named ≡ or_then (instant_refusal (last_instant h) t) (event_refusal plant (state_of plant h).changes event)) where
-  by_parts : first_refusal plant h event t ≡ or_then named (turn_refusal plant.tasks (singles_of plant h) (calls_at plant h t) event t)
+  pub by_parts : first_refusal plant h event t ≡ or_then named (turn_refusal plant.tasks (singles_of plant h) (calls_at plant h t) event t)
   unfolding first_refusal
   by_parts =
       or_then_assoc (instant_refusal (last_instant h) t) (event_refusal plant (state_of plant h).changes event)
@@ -49,7 +49,7 @@ module _ (plant : PlantData) (h : History) (event : Event) (t : ℤ) (named : Op
 
   module _ (none : named ≡ None) (singles : List Bool) (there : singles ≡ singles_of plant h) (turn : Option Refusal)
       (f : turn ≡ turn_refusal plant.tasks singles (Elapsed t singles ∷ calls_of plant h) event t) where
-    by_turn : first_refusal plant h event t ≡ turn
+    pub by_turn : first_refusal plant h event t ≡ turn
     by_turn =
         by_parts ∙ ap (λ (o : Option Refusal). or_then o (turn_refusal plant.tasks (singles_of plant h) (calls_at plant h t) event t)) none
         ∙ sym (f ∙ ap (λ (xs : List Bool). turn_refusal plant.tasks xs (Elapsed t xs ∷ calls_of plant h) event t) there)

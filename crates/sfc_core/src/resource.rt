@@ -70,7 +70,7 @@ impl Resource {
     ghost use Rattle.sfc_events.specs.History.{TimedEvent, History, last_instant};
     ghost use Rattle.sfc_core.specs.PlantState.{state_of};
     ghost use Rattle.sfc_core.specs.Answers.{value_of, forced_of, instance_state_of, overruns_of};
-    ghost use Rattle.sfc_core.specs.Verdict.{instant_refusal, event_refusal, or_then, answer, verdict, after, after_all, accepted};
+    ghost use Rattle.sfc_core.specs.Verdict.{instant_refusal, event_refusal, first_refusal, or_then, answer, verdict, after, after_all, accepted};
     ghost use Rattle.sfc_core.specs.Work.{event_work, instances_work};
     ghost use Rattle.sfc_core.specs.Agreement.{Agrees, plant_of};
     ghost use Rattle.sfc_core.specs.Past.{history_past};
@@ -189,6 +189,20 @@ impl Resource {
             return self.decide_other(event, t, ticks);
         }
         self.decide(event, t, ticks)
+    }
+
+    /// What an event at the instant t, in microseconds, would be refused for, as `apply` says; `None` where it would be accepted. It takes no
+    /// memory.
+    pub fn refuse(&self, event: Event, t: i64) -> Option<Refusal>
+        ensures { (h : History) → Agrees self.now h → result ≡ first_refusal (plant_of self.now) h event t }
+    {
+        match self.refuse_named(event, t) {
+            Some(refusal) => Some(refusal),
+            None => {
+                let singles = self.singles.as_slice();
+                refuse_turn(&self.tasks, singles, event, t, &mut Ticks::new())
+            }
+        }
     }
 
     // One event, and whether it is accepted.

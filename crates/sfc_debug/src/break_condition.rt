@@ -45,8 +45,7 @@ impl BreakCondition {
         ensures same { result ≡ true → self.now ≡ other.now }
         ensures other { result ≡ false → self.now ≡ other.now → ⊥ }
     {
-        self.program.0 == other.program.0
-            && is_same(self.condition.expr(), other.condition.expr())
+        self.program.0 == other.program.0 && is_same(self.condition.expr(), other.condition.expr())
     }
 }
 

@@ -8,7 +8,6 @@
 //! - `laws`: what holds of what a session has written.
 //! - `line`, `words`: what a line says.
 //! - `prompt`: lines that are obeyed one by one.
-//! - `releases`: when tasks are scanned next.
 //! - `course`: steps one after the other.
 //! - `showing`: the words that change nothing.
 //! - `spoken`: texts that should be commands of a script.
@@ -22,7 +21,6 @@ mod expression;
 pub mod laws;
 mod line;
 pub mod prompt;
-mod releases;
 mod showing;
 mod spoken;
 mod words;

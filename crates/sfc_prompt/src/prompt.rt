@@ -263,7 +263,7 @@ impl Prompt {
         ensures last { last_in self.new ≡ last_in self.old }
         ensures course { course_in self.new ≡ course_in self.old }
     {
-        let told = shown(self.alloc, &mut self.session, word, text)?;
+        let told = shown(self.alloc, &self.session, word, text)?;
         append(out, &told)
     }
 

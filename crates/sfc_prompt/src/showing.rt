@@ -1,11 +1,6 @@
 //! The words that change nothing.
 
-ghost use Rattle.std.specs.Prelude.{List, ℕ};
-ghost use Rattle.sfc_asking.specs.sfc_debug.Histories.{CommandHistory};
-ghost use Rattle.sfc_session.specs.Sessions.{HasSaid, Stays};
-
 use crate::line::Word;
-use crate::releases::releases;
 use crate::sfc_script::split::{first_word, only_word};
 use crate::words::{is_empty, number};
 use sfc_asking::explaining::append_explanation;
@@ -14,6 +9,7 @@ use sfc_asking::image::append_image;
 use sfc_asking::listing::append_listing;
 use sfc_asking::note::append_note;
 use sfc_asking::points::append_points;
+use sfc_asking::release::releases;
 use sfc_asking::show::append_show;
 use sfc_asking::trace::append_trace;
 use sfc_asking::why::append_why;
@@ -24,10 +20,8 @@ use std::alloc::{AllocError, Global};
 const ROWS: u64 = 10;
 
 // How all stands.
-fn show(alloc: Global, session: &mut Session, out: &mut Vec<u8>) -> Result<(), AllocError>
-    ensures { (h : CommandHistory) (lines : List ℕ) → HasSaid session.old h lines → Stays session.old session.new h lines }
-{
-    let releases = releases(alloc, session)?;
+fn show(alloc: Global, session: &Session, out: &mut Vec<u8>) -> Result<(), AllocError> {
+    let releases = releases(alloc, session.debugger())?;
     append_show(out, session.debugger(), session.instant(), &releases)
 }
 
@@ -79,16 +73,14 @@ fn why(alloc: Global, session: &Session, text: &[u8], out: &mut Vec<u8>) -> Resu
     }
 }
 
-/// What a word tells that shows how all stands, with this text behind it, which has no blank at its end; nothing for any other word. Nothing
-/// of the session changes. The one error is that memory was refused.
+/// What a word tells that shows how all stands, with this text behind it, which has no blank at its end; nothing for any other word.
+/// The one error is that memory was refused.
 pub fn shown(
     alloc: Global,
-    session: &mut Session,
+    session: &Session,
     word: Word,
     text: &[u8],
-) -> Result<Vec<u8>, AllocError>
-    ensures { (h : CommandHistory) (lines : List ℕ) → HasSaid session.old h lines → Stays session.old session.new h lines }
-{
+) -> Result<Vec<u8>, AllocError> {
     let mut out = Vec::new(alloc);
     append_shown(alloc, session, word, text, &mut out)?;
     Ok(out)
@@ -97,13 +89,11 @@ pub fn shown(
 // Puts what the word tells at the end.
 fn append_shown(
     alloc: Global,
-    session: &mut Session,
+    session: &Session,
     word: Word,
     text: &[u8],
     out: &mut Vec<u8>,
-) -> Result<(), AllocError>
-    ensures { (h : CommandHistory) (lines : List ℕ) → HasSaid session.old h lines → Stays session.old session.new h lines }
-{
+) -> Result<(), AllocError> {
     match word {
         Word::Show if !is_empty(text) => append_note(out, b"SHOW, and nothing behind it"),
         Word::Points if !is_empty(text) => append_note(out, b"POINTS, and nothing behind it"),

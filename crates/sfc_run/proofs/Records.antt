@@ -1,14 +1,19 @@
 -- What was recorded of rows, and what a replay of it writes.
-use Rattle.std.proofs.Common.{◌≡◌, ◌∙◌, refl, sym, ap, subst, ℕ, suc, ◌+◌, ◌≤◌, ◌==◌, ◌&&◌, nat_lt, arith, Bool, true, false, if◌then◌else◌, List, [], ◌∷◌, ◌++◌, length, map, length-append, append_assoc, Option, Some, None, Result, Ok, Err}
+use Rattle.std.proofs.Common.{◌≡◌, ◌∙◌, refl, sym, ap, subst, ℕ, suc, ◌+◌, ◌≤◌, ◌==◌, ◌&&◌, nat_lt, arith, Bool, true, false, List, [], ◌∷◌, ◌++◌, length, map, length-append, append_assoc, Option, Some, None, Result, Ok, Err, if◌then◌else◌}
 use mathlib.Core.List.{IsPrefix}
 use Rattle.std.specs.Bool.{MatchBool, ⊤}
+use Rattle.std.specs.Prelude.{IsOk}
 use Rattle.std.proofs.lemmas.Bool.Decides.{nat_tests}
 use Rattle.sfc_base.specs.TimeText.{time_text}
+use Rattle.sfc_events.specs.declared.command.Command.{Command}
+use Rattle.sfc_events.specs.declared.command.Command.TheVariants as commands
 use Rattle.sfc_events.specs.declared.command.TraceRow.{TraceRow}
 use Rattle.sfc_plant.specs.Plants.{PlantData}
 use Rattle.sfc_control.specs.sfc_debug.Histories.{CommandHistory, TimedCommand}
+use Rattle.sfc_control.specs.sfc_debug.Longer.{IsNamedWithin}
 use Rattle.sfc_control.specs.sfc_debug.Steered.{Steered}
 use Rattle.sfc_control.specs.sfc_debug.Verdict.{history_by}
+use Rattle.sfc_control.proofs.of_sfc_debug.LongerAccepted.{named_one}
 use Rattle.sfc_replay.specs.sfc_load.Accepted.{IsAccepted}
 use Rattle.sfc_replay.specs.sfc_output.Commands.{command_text}
 use Rattle.sfc_replay.specs.sfc_output.Output.{Verdict, closing_lines, commands_lines, debugger_of, session_after, text_of}
@@ -16,7 +21,7 @@ use Rattle.sfc_replay.specs.sfc_script.Lines.{begins_with_lf, in_line, lines_of}
 use Rattle.sfc_replay.specs.sfc_script.Scripts.{LinesRead, ScriptData, ScriptReads, and_then, joined, nothing_said}
 use Rattle.sfc_run.specs.Alarms.{AreTold, IsHeard, IsSet, IsTold, rows_heard}
 use Rattle.sfc_run.specs.Following.{AnswersSo, command_of, steered_in}
-use Rattle.sfc_run.specs.Recording.{IsReadBack, goes_on, lost_after, only, record_line, record_text}
+use Rattle.sfc_run.specs.Recording.{IsReadBack, brought_along, first_numbered, goes_on, lost_after, only, record_line, record_text}
 use Rattle.sfc_run.specs.Records.{IsRecordOf, answered_lines, behind_rows, opened_on}
 use Rattle.sfc_run.specs.declared.alarms.Alarms.{Alarms}
 use Rattle.sfc_run.specs.declared.recording.Recording.{Recording}
@@ -28,7 +33,7 @@ use Rattle.sfc_run.specs.declared.recording.Recording.TheVariants as recordings
 abbrev AreKept : Steered → CommandHistory → List TraceRow → Type 0
 AreKept steered h [] = ⊤
 AreKept steered h (row ∷ rows) =
-    AnswersSo steered h row × IsReadBack steered.plant (record_line steered row) row × AreKept steered (command_of row ∷ h) rows
+    AnswersSo steered h row × IsReadBack steered (record_line steered row) row × AreKept steered (command_of row ∷ h) rows
 
 -- a front of rows was recorded, all where recording goes on
 record Kept (steered : Steered) (h : CommandHistory) (recording : Recording) (rows : List TraceRow) (bytes : List ℕ) : Type 0 where
@@ -95,8 +100,8 @@ kept_row old mid new row rows h between some seen put puts bytes told too after 
       lines = too ∙ (λ i. is_line i ++ later.lines i);
       kept = (
         level.3,
-        subst (λ (s : Steered). IsReadBack s.plant (record_line s row) row) steered
-            (subst (λ (b : List ℕ). IsReadBack (steered_in mid.follower).plant b row) line.2 line.3),
+        subst (λ (s : Steered). IsReadBack s (record_line s row) row) steered
+            (subst (λ (b : List ℕ). IsReadBack (steered_in mid.follower) b row) line.2 line.3),
         later.kept,
       );
     }
@@ -231,23 +236,54 @@ module _ (plant : PlantData) where
 abbrev script_of : List TraceRow → ScriptData
 script_of rows = record { commands = map command_of rows; table = [] }
 
-record_reads : (steered : Steered) (h : CommandHistory) (n : ℕ) (rows : List TraceRow) → AreKept steered h rows
-    → LinesRead steered.plant n 0 (lines_of (record_text steered rows)) (Ok (script_of rows))
-record_reads steered h n [] kept = refl
-record_reads steered h n (row ∷ rows) (so, back, more) =
-    subst (λ (lines : List (List ℕ)). LinesRead steered.plant n 0 lines (Ok (script_of (row ∷ rows))))
-    (sym (line_more steered row (record_text steered rows)))
-    (joins steered.plant 1 n 0 (lines_of (record_line steered row)) (lines_of (record_text steered rows)) (only row) (script_of rows)
-    (line_reads steered.plant (record_line steered row) (only row) back)
-    (λ i. record_reads steered (command_of row ∷ h) i rows more))
+-- a command that names no condition has no other number, and brings none along
+plain_command : (command : Command) → IsNamedWithin 0 command → (first_numbered command ≡ command) × (brought_along [] command ≡ [])
+plain_command (commands.BreakIf p point id) within = absurd (omega (arith, within))
+plain_command (commands.Scan task) within = (refl, refl)
+plain_command (commands.Single task delta) within = (refl, refl)
+plain_command (commands.Input id v) within = (refl, refl)
+plain_command (commands.Force id v) within = (refl, refl)
+plain_command (commands.Release id) within = (refl, refl)
+plain_command (commands.Reset p) within = (refl, refl)
+plain_command (commands.Read id) within = (refl, refl)
+plain_command (commands.Break p point) within = (refl, refl)
+plain_command (commands.Unbreak p point) within = (refl, refl)
+plain_command commands.Stop within = (refl, refl)
+plain_command commands.Go within = (refl, refl)
+plain_command commands.End within = (refl, refl)
+plain_command commands.Epoch within = (refl, refl)
 
-record_script : (steered : Steered) (rows : List TraceRow) → AreKept steered [] rows → length (record_text steered rows) ≤ 1048576
-    → ScriptReads steered.plant (record_text steered rows) (Ok (script_of rows))
-record_script steered rows kept short =
+-- so is what was accepted where there are no conditions
+plain_row : (plant : PlantData) (h : CommandHistory) (row : TraceRow) → AnswersSo (opened_on plant) h row
+    → only [] row ≡ record { commands = command_of row ∷ []; table = [] }
+plain_row plant h row so =
+    let plain = plain_command row.command (named_one plant [] h row.command row.raw (subst IsOk (sym so) tt)) in
+    λ i. record { commands = (plain.0 i, row.raw) ∷ []; table = plain.1 i }
+
+module _ (plant : PlantData) where
+  abbrev opened : Steered
+  opened = opened_on plant
+
+  record_reads : (h : CommandHistory) (n : ℕ) (rows : List TraceRow) → AreKept opened h rows
+      → LinesRead plant n 0 (lines_of (record_text opened rows)) (Ok (script_of rows))
+  record_reads h n [] kept = refl
+  record_reads h n (row ∷ rows) (so, back, more) =
+      let line : ScriptData = record { commands = command_of row ∷ []; table = [] } in
+      subst (λ (lines : List (List ℕ)). LinesRead plant n 0 lines (Ok (script_of (row ∷ rows))))
+      (sym (line_more opened row (record_text opened rows)))
+      (joins plant 1 n 0 (lines_of (record_line opened row)) (lines_of (record_text opened rows)) line (script_of rows)
+      (line_reads plant (record_line opened row) line
+      (subst (λ (said : ScriptData). ScriptReads plant (record_line opened row) (Ok said)) (plain_row plant h row so) back))
+      (λ i. record_reads (command_of row ∷ h) i rows more))
+
+record_script : (plant : PlantData) (rows : List TraceRow) → AreKept (opened_on plant) [] rows
+    → length (record_text (opened_on plant) rows) ≤ 1048576 → ScriptReads plant (record_text (opened_on plant) rows) (Ok (script_of rows))
+record_script plant rows kept short =
+    let steered = opened_on plant in
     let fits : nat_lt 1048576 (length (record_text steered rows)) ≡ false = grind (arith, nat_tests) in
     subst (λ (b : Bool). MatchBool b (◌≡◌ {A = Result ScriptData ℕ} (Ok (script_of rows)) (Err 0))
     (LinesRead steered.plant 1 0 (lines_of (record_text steered rows)) (Ok (script_of rows))))
-    (sym fits) (record_reads steered [] 1 rows kept)
+    (sym fits) (record_reads plant [] 1 rows kept)
 
 -- ---- a replay of it
 
@@ -293,7 +329,7 @@ is_record chart plant old new heard behind text shown bytes loaded opened told =
             plant = plant;
             loaded = loaded;
             said = script_of cut;
-            parsed = record_script st cut kept short;
+            parsed = record_script plant cut kept short;
             lines = λ i. sym (written st [] cut kept) i ++ closing_lines (debugger_of st) (text_of st) (sym (played st [] cut kept) i);
           };
     }

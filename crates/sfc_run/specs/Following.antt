@@ -1,5 +1,5 @@
 -- A debugger that follows a run, row by row of its feed.
-use Rattle.std.specs.Prelude.{ℕ, ◌≡◌, ◌+◌, Bool, true, List, ◌∷◌, Ok}
+use Rattle.std.specs.Prelude.{ℕ, ◌≡◌, ◌+◌, Bool, true, ◌∷◌, Ok}
 use Rattle.sfc_events.specs.declared.command.TraceRow.{TraceRow}
 use Rattle.sfc_control.specs.sfc_debug.Agreement.{Agrees}
 use Rattle.sfc_control.specs.sfc_debug.Histories.{CommandHistory, TimedCommand}

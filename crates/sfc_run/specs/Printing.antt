@@ -1,5 +1,5 @@
 -- What is printed of the feed, and what is told beside it.
-use Rattle.std.specs.Prelude.{ℕ, ◌≡◌, Bool, true, false, List, [], ◌∷◌, ◌++◌, Option, Result, OnOk, if◌then◌else◌, is_some}
+use Rattle.std.specs.Prelude.{ℕ, ◌≡◌, Bool, true, false, List, [], ◌∷◌, ◌++◌, Option, Result, OnOk, is_some, if◌then◌else◌}
 use mathlib.Core.List.{IsPrefix}
 use Rattle.std.specs.Io.KnownBytes.{Appends}
 use Rattle.sfc_base.specs.Writing.{AppendsFront, Writes}

@@ -1,13 +1,16 @@
 -- The record of a run: its accepted commands as a script (our choice of format).
-use Rattle.std.specs.Prelude.{ℕ, ◌≡◌, Bool, true, false, List, [], ◌∷◌, ◌++◌, Option, Some, None, Ok, codes}
+use Rattle.std.specs.Prelude.{ℕ, ◌≡◌, Bool, true, false, List, [], ◌∷◌, ◌++◌, Option, Some, None, Ok, codes, slice_get}
+use Rattle.std.specs.Option.{option_to_list}
 use Rattle.sfc_base.specs.TimeText.{time_text}
+use Rattle.sfc_events.specs.declared.command.Command.{Command}
+use Rattle.sfc_events.specs.declared.command.Command.TheVariants.{BreakIf}
 use Rattle.sfc_events.specs.declared.command.TraceRow.{TraceRow}
 use Rattle.sfc_page.specs.Values.{line_end}
-use Rattle.sfc_plant.specs.Plants.{PlantData}
 use Rattle.sfc_control.specs.sfc_debug.Steered.{Steered}
+use Rattle.sfc_control.specs.sfc_debug.declared.break_condition.BreakCondition.{BreakCondition}
 use Rattle.sfc_replay.specs.sfc_output.Commands.{command_text}
 use Rattle.sfc_replay.specs.sfc_script.Scripts.{ScriptData, ScriptReads}
-use Rattle.sfc_run.specs.Following.{command_of, is_level, steered_in}
+use Rattle.sfc_run.specs.Following.{is_level, steered_in}
 use Rattle.sfc_run.specs.declared.follower.Follower.{Follower}
 use Rattle.sfc_run.specs.declared.recording.Recording.{Recording}
 use Rattle.sfc_run.specs.declared.recording.Recording.TheVariants.{Off, On, Lost, Unread}
@@ -21,13 +24,23 @@ abbrev pub record_text : Steered → List TraceRow → List ℕ
 record_text steered [] = []
 record_text steered (row ∷ rows) = record_line steered row ++ record_text steered rows
 
--- a row's command at its raw instant, and nothing else
-abbrev pub only : TraceRow → ScriptData
-only row = record { commands = command_of row ∷ []; table = [] }
+-- a command as the only one of a script: a condition is the first one there
+abbrev pub first_numbered : Command → Command
+first_numbered (BreakIf p point id) = BreakIf p point (record { 0 = 0 })
+first_numbered command = command
+
+-- the condition of a table for which it waits
+abbrev pub brought_along : List BreakCondition → Command → List BreakCondition
+brought_along table (BreakIf p point id) = option_to_list (slice_get table id.0)
+brought_along table command = []
+
+-- a row's command at its raw instant, with the condition for which it waits, and nothing else
+abbrev pub only : List BreakCondition → TraceRow → ScriptData
+only table row = record { commands = (first_numbered row.command, row.raw) ∷ []; table = brought_along table row.command }
 
 -- A script that is this line says that.
-abbrev pub IsReadBack : PlantData → List ℕ → TraceRow → Type 0
-IsReadBack plant line row = ScriptReads plant line (Ok (only row))
+abbrev pub IsReadBack : Steered → List ℕ → TraceRow → Type 0
+IsReadBack steered line row = ScriptReads steered.plant line (Ok (only steered.table row))
 
 abbrev pub goes_on : Recording → Bool
 goes_on On = true
@@ -38,10 +51,10 @@ goes_on _ = false
 -- that line is read back.
 pub record IsRecorded (old new : Recording) (follower : Follower) (row : TraceRow) (text : List ℕ) : Type 0 where
   pub line : goes_on new ≡ true → (goes_on old ≡ true) × (is_level follower ≡ true)
-      × (text ≡ record_line (steered_in follower) row) × IsReadBack (steered_in follower).plant text row
+      × (text ≡ record_line (steered_in follower) row) × IsReadBack (steered_in follower) text row
   pub none : goes_on new ≡ false → text ≡ []
   pub stays : goes_on old ≡ true → is_level follower ≡ true
-      → IsReadBack (steered_in follower).plant (record_line (steered_in follower) row) row → goes_on new ≡ true
+      → IsReadBack (steered_in follower) (record_line (steered_in follower) row) row → goes_on new ≡ true
   pub ended : goes_on old ≡ false → new ≡ old
 
 -- where rows were lost it doesn't go on

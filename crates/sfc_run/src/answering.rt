@@ -11,6 +11,7 @@ use sfc_asking::image::append_image;
 use sfc_asking::listing::append_listing;
 use sfc_asking::note::append_note;
 use sfc_asking::points::append_points;
+use sfc_asking::release::releases;
 use sfc_asking::show::append_show;
 use sfc_asking::trace::append_trace;
 use sfc_asking::why::append_why;
@@ -32,7 +33,7 @@ const ROUND: usize = 64;
 // What may be asked in a run.
 const HELP: &[u8] = b"\
 Beside commands a session may ask, and nothing changes by it:
-SHOW                            the instants, the mode, and how each program stands
+SHOW                            the instants, the mode, when each task is scanned next, and how each program stands
 IMAGE [VARIABLE]                what a variable reads, or each
 WHY [PROGRAM [TRANSITION]]      why transitions aren't cleared
 POINTS                          the breakpoints that are set
@@ -58,8 +59,9 @@ fn newest(alloc: Global, debugger: &Debugger, most: u64) -> Result<Vec<TraceRow>
 }
 
 // How all stands.
-fn show(out: &mut Vec<u8>, follower: &Follower) -> Result<(), AllocError> {
-    append_show(out, follower.debugger(), follower.raw(), &[])
+fn show(alloc: Global, out: &mut Vec<u8>, follower: &Follower) -> Result<(), AllocError> {
+    let releases = releases(alloc, follower.debugger())?;
+    append_show(out, follower.debugger(), follower.raw(), &releases)
 }
 
 // The breakpoints that are set, where none of the commands that set and took them was lost.
@@ -120,7 +122,7 @@ fn append_answer(
     let resource = debugger.resource();
     let (first, rest) = parted(text);
     if is_same_word(word, b"SHOW") {
-        return show(out, &alarms.follower);
+        return show(alloc, out, &alarms.follower);
     }
     if is_same_word(word, b"IMAGE") {
         return append_image(out, resource, first);

@@ -12,16 +12,22 @@ use sfc_events::command::Command;
 use std::sync::Wait;
 use std::sync::atomic::{AtomicBool, Ordering};
 use std::sync::ledger::Ledger;
+use std::thread::Parker;
 use std::time::Duration;
-use std::{thread, time};
 
-/// How many milliseconds pass between two looks.
-const PAUSE: u64 = 10;
+/// How many milliseconds pass between two looks, at least and at most.
+const SHORT: usize = 10;
+
+const LONG: usize = 100;
+
+/// More commands than a run accepts in a millisecond.
+const PACE: usize = 2_600;
 
 /// Whether a run is over.
 #[derive(Drop)]
 pub struct Over {
     told: AtomicBool,
+    bell: Parker,
 }
 
 impl Over {
@@ -29,12 +35,19 @@ impl Over {
     pub fn new() -> Over {
         Over {
             told: AtomicBool::new(false),
+            bell: Parker::new(),
         }
     }
 
-    /// It is from now on.
+    /// It is from now on; who waits for it is woken.
     pub fn tell(&self) {
         self.told.store(true, Ordering::SeqCst);
+        self.bell.unpark();
+    }
+
+    // Waits until it is told, or so many milliseconds.
+    fn wait<R: Wait>(&self, rt: &R, millis: u64) {
+        self.bell.park_timeout(rt, Duration::from_millis(millis));
     }
 
     // Whether it is.
@@ -67,15 +80,15 @@ impl<L: OpenedWith, C: Clock> Keeper<L, C> {
         }
     }
 
-    /// Looks every ten milliseconds how many commands are held, and where they are too many sends Epoch, until it is told that the run is
-    /// over. So scans never end for want of room, and what a run holds in memory stays as it is; by the law on epochs no later answer
+    // How many milliseconds pass between two looks: fewer than it takes to accept as many commands as may be held before a cut.
+    fn pause(&self) -> u64 {
+        (self.most / PACE).max(SHORT).min(LONG) as u64
+    }
+
+    /// Looks every ten to a hundred milliseconds how many commands are held, and where they are too many sends Epoch, until it is told that
+    /// the run is over. So scans never end for want of room, and what a run holds in memory stays as it is; by the law on epochs no later answer
     /// changes. Where memory was refused for a receipt that is told, and it goes on.
-    pub fn keep<R: Wait + time::Clock>(
-        &mut self,
-        rt: &R,
-        controller: &Controller<L>,
-        over: &Over,
-    ) -> RunFaults
+    pub fn keep<R: Wait>(&mut self, rt: &R, controller: &Controller<L>, over: &Over) -> RunFaults
         ensures cuts { Cuts self.old.console self.new.console }
     {
         let mut faults = RunFaults::none();
@@ -84,7 +97,7 @@ impl<L: OpenedWith, C: Clock> Keeper<L, C> {
                 return faults;
             }
             faults = faults.with(self.cut(rt, controller));
-            thread::sleep(rt, Duration::from_millis(PAUSE));
+            over.wait(rt, self.pause());
         }
         unreachable!()
     }

@@ -2,7 +2,6 @@
 
 ghost use Rattle.std.specs.Bool.{OnTrue, OnFalse};
 ghost use Rattle.std.specs.Prelude.{◌≡◌, ◌++◌, ◌||◌, List, ℕ, IfOk, OnOk, false, is_some, option_map};
-ghost use Rattle.sfc_control.specs.sfc_core.Agreement.{plant_of};
 ghost use Rattle.sfc_control.specs.sfc_debug.Steered.{steered_by};
 ghost use Rattle.sfc_replay.specs.sfc_script.Answers.{script_data};
 ghost use Rattle.sfc_run.specs.Printing.{Passes};
@@ -10,13 +9,13 @@ ghost use Rattle.sfc_run.specs.Recording as rules;
 ghost use Rattle.sfc_run.specs.Recording.{IsReadBack, IsRecorded};
 
 use crate::follower::Follower;
-use crate::sfc_core::resource::Resource;
+use crate::sfc_debug::break_condition::BreakCondition;
 use crate::sfc_debug::debugger::Debugger;
 use crate::sfc_output::command::append_command;
 use crate::sfc_script::laws::one_script;
 use crate::sfc_script::script::{Script, ScriptError, read_script};
 use crate::teller::Teller;
-use sfc_events::command::{Answer, TraceRow};
+use sfc_events::command::{Answer, Command, CondId, TraceRow};
 use sfc_page::append::append;
 use std::alloc::{AllocError, Global};
 use std::io::Write;
@@ -34,14 +33,41 @@ pub enum Recording {
     Unread,
 }
 
-// Whether a script says this row's command at its raw instant, and nothing else.
-fn says(script: &Script, row: TraceRow) -> bool
-    ensures yes { OnTrue result (script_data script.now ≡ rules.only row) }
-    ensures no { OnFalse result (script_data script.now ≡ rules.only row → ⊥) }
+// A command as the only one of a script: a condition is the first one there.
+fn first_numbered(command: Command) -> Command
+    ensures { result ≡ rules.first_numbered command }
+{
+    match command {
+        Command::BreakIf(program, point, _) => Command::BreakIf(program, point, CondId(0)),
+        _ => command,
+    }
+}
+
+// Whether these conditions are the one for which a command waits, or none where it doesn't.
+fn are_brought_along(debugger: &Debugger, command: Command, conditions: &[BreakCondition]) -> bool
+    ensures yes { OnTrue result (conditions.now ≡ rules.brought_along (steered_by debugger.now).table command) }
+    ensures no { OnFalse result (conditions.now ≡ rules.brought_along (steered_by debugger.now).table command → ⊥) }
+{
+    let Command::BreakIf(_, _, id) = command else {
+        return conditions.is_empty();
+    };
+    match (debugger.conditions().get(usize::from(id.0)), conditions) {
+        (Some(own), [one]) => one.is_same(own),
+        (None, []) => true,
+        _ => false,
+    }
+}
+
+// Whether a script says this row's command at its raw instant, with the condition for which it waits, and nothing else.
+fn says(script: &Script, debugger: &Debugger, row: TraceRow) -> bool
+    ensures yes { OnTrue result (script_data script.now ≡ rules.only (steered_by debugger.now).table row) }
+    ensures no { OnFalse result (script_data script.now ≡ rules.only (steered_by debugger.now).table row → ⊥) }
 {
     match script.commands.as_slice() {
         [one] => {
-            one.command == row.command && one.raw == row.raw && script.conditions.is_empty()
+            one.command == first_numbered(row.command)
+                && one.raw == row.raw
+                && are_brought_along(debugger, row.command, &script.conditions)
         }
         _ => false,
     }
@@ -50,16 +76,16 @@ fn says(script: &Script, row: TraceRow) -> bool
 // Whether a line is read as the command of a row, by the reader of scripts. The one error is that memory was refused.
 fn is_read_back(
     alloc: Global,
-    resource: &Resource,
+    debugger: &Debugger,
     line: &[u8],
     row: TraceRow,
 ) -> Result<bool, AllocError>
-    ensures yes { IfOk result (λ is. OnTrue is (IsReadBack (plant_of resource.now) line.now row)) }
-    ensures no { IfOk result (λ is. OnFalse is (IsReadBack (plant_of resource.now) line.now row → ⊥)) }
+    ensures yes { IfOk result (λ is. OnTrue is (IsReadBack (steered_by debugger.now) line.now row)) }
+    ensures no { IfOk result (λ is. OnFalse is (IsReadBack (steered_by debugger.now) line.now row → ⊥)) }
 {
     one_script();
-    match read_script(alloc, resource, line) {
-        Ok(script) => Ok(says(&script, row)),
+    match read_script(alloc, debugger.resource(), line) {
+        Ok(script) => Ok(says(&script, debugger, row)),
         Err(ScriptError::Faulty(_)) => Ok(false),
         Err(ScriptError::Memory) => Err(AllocError),
     }
@@ -108,7 +134,7 @@ impl Recording {
         }
         let debugger = follower.debugger();
         let line = line_of(alloc, debugger, row)?;
-        if is_read_back(alloc, debugger.resource(), &line, row)? {
+        if is_read_back(alloc, debugger, &line, row)? {
             return append(out, &line);
         }
         *self = Recording::Unread;

@@ -105,7 +105,7 @@ fn work<
 }
 
 // What keeping the history short comes to.
-fn kept<L: OpenedWith, R: Wait + time::Clock, C: Clock>(
+fn kept<L: OpenedWith, R: Wait, C: Clock>(
     rt: &R,
     controller: &Controller<L>,
     keeper: Keeper<L, C>,

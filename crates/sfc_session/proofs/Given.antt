@@ -82,15 +82,6 @@ stays_on a b d h lines first second = record {
 pub stays_same : (session : Session) (h : CommandHistory) (lines : List ℕ) → HasSaid session h lines → Stays session session h lines
 stays_same session h lines said = record { steered = refl; said = said; script = refl }
 
--- a command that was only tried
-pub stays_tried : (a b d : Session) (h : CommandHistory) (lines : List ℕ) → Stays a b h lines → steered_in d ≡ steered_in b
-    → (HasSaid b h lines → HasSaid d h lines) → script_in d ≡ script_in b → Stays a d h lines
-stays_tried a b d h lines stays steered said script = record {
-  steered = steered ∙ stays.steered;
-  said = said stays.said;
-  script = script ∙ stays.script;
-}
-
 -- the same at an equal text or an equal instant
 pub taken_from : (a d : Session) (x w y : List ℕ) (told : Verdict) (h : CommandHistory) (lines : List ℕ) (timed other : TimedCommand)
     → w ≡ x → timed ≡ other → IsTaken a d w y told h lines timed → IsTaken a d x y told h lines other

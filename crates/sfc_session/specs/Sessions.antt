@@ -1,5 +1,5 @@
 -- A session: commands one after the other, each answered with the lines that a replay writes for it.
-use Rattle.std.specs.Prelude.{◌≡◌, ℕ, nat_lt, cond, List, [], ◌∷◌, ◌++◌, length, reverse, ℤ, pos, Option, Some, None, Ok, Err, codes}
+use Rattle.std.specs.Prelude.{◌≡◌, ℕ, nat_lt, cond, List, [], ◌∷◌, ◌++◌, length, reverse, ℤ, pos, Ok, Err, codes}
 use Rattle.sfc_base.specs.TimeText.{time_text}
 use Rattle.sfc_events.specs.declared.command.Command.{Command}
 use Rattle.sfc_events.specs.declared.command.Point.{Point}
@@ -78,18 +78,6 @@ with_lines (Err refusal) lines more = lines
 abbrev pub rows_after : Verdict → Steered → CommandHistory → TimedCommand → List TraceRow → List TraceRow
 rows_after (Ok answer) steered h timed rows = rows ++ row_of steered.plant steered.table h timed.0 timed.1 answer ∷ []
 rows_after (Err refusal) steered h timed rows = rows
-
--- ---- what would be answered
-
--- the commands behind these and another one, where there is one: it was given at this raw instant, and counts where it was accepted
-abbrev pub behind_first : Steered → CommandHistory → Option Command → ℤ → CommandHistory
-behind_first steered h None raw = h
-behind_first steered h (Some first) raw = (debugger_of steered).after h (first, raw)
-
--- The verdict on a command behind these and the other one, both at the instant of the last of these.
-abbrev pub would_answer : Steered → CommandHistory → Option Command → Command → Verdict
-would_answer steered h first command =
-    (debugger_of steered).verdict (behind_first steered h first (last_instant h)) (command, last_instant h)
 
 -- ---- a breakpoint with a condition
 

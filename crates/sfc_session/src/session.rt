@@ -8,12 +8,11 @@ ghost use Rattle.sfc_output.specs.sfc_debug.Verdict.{history_by};
 ghost use Rattle.sfc_events.specs.declared.command.Command.TheVariants.{BreakIf};
 ghost use Rattle.sfc_output.specs.Output.{debugger_of};
 ghost use Rattle.sfc_output.specs.sfc_debug.Steered.{steered_by};
-ghost use Rattle.sfc_session.specs.Sessions.{behind_first, steered_after, waiting, waiting_verdict};
+ghost use Rattle.sfc_session.specs.Sessions.{steered_after, waiting, waiting_verdict};
 
 use crate::saved::append_line;
 use crate::sfc_debug::break_condition::BreakCondition;
 use crate::sfc_debug::debugger::Debugger;
-use crate::sfc_debug::opening::DebugOpening;
 use crate::sfc_debug::timed::Timed;
 use sfc_base::ids::ProgId;
 use sfc_base::ticks::Ticks;
@@ -67,17 +66,6 @@ fn obey_break(
     debugger.break_when(point, condition, raw, &mut ticks)
 }
 
-// A command at a raw instant, if there is one.
-fn obey_first(debugger: &mut Debugger, first: Option<Command>, raw: i64)
-    ensures steered { steered_by debugger.new ≡ steered_by debugger.old }
-    ensures agrees { (h : CommandHistory) → Agrees debugger.old h →
-        Agrees debugger.new (behind_first (steered_by debugger.old) h first raw) }
-{
-    if let Some(command) = first {
-        let _ = debugger.obey(Timed { command, raw });
-    }
-}
-
 #[tactic(auto, unfolding(crate::specs::Sessions::debugger_in, crate::specs::Sessions::instant_in, crate::specs::Sessions::script_in, crate::specs::Sessions::rows_in, crate::specs::Sessions::count_in))]
 impl Session {
     ghost use Rattle.std.specs.Prelude.{List, ℕ};
@@ -90,7 +78,7 @@ impl Session {
     ghost use Rattle.sfc_session.specs.Scanning as scanning;
     ghost use Rattle.sfc_session.specs.Sessions.{HasSaid, debugger_in, instant_in, script_in, rows_in, steered_in};
     ghost use Rattle.sfc_session.specs.Sessions.{count_in, last_instant, with_lines, script_after, script_line, rows_after, rows_of};
-    ghost use Rattle.sfc_session.specs.Sessions.{lines_by, steered_after, waiting, waiting_verdict, with_one_more, would_answer};
+    ghost use Rattle.sfc_session.specs.Sessions.{lines_by, steered_after, waiting, waiting_verdict, with_one_more};
 
     /// A session with a debugger that has no condition and was told nothing.
     pub fn new(alloc: Global, debugger: Debugger) -> Session
@@ -277,30 +265,5 @@ impl Session {
         ensures said { (h : CommandHistory) (lines : List ℕ) → HasSaid self.now h lines → result.now ≡ rows_of (steered_in self.now) h }
     {
         self.rows.as_slice()
-    }
-
-    /// What the debugger would answer to these commands, one after the other at the instant of the last accepted one: the answer to the
-    /// last. The debugger is as it was. The one error is that memory was refused.
-    pub fn would_answer(
-        &mut self,
-        alloc: Global,
-        first: Option<Command>,
-        command: Command,
-    ) -> Result<Result<Answer, Refusal>, AllocError>
-        ensures steered { steered_in self.new ≡ steered_in self.old }
-        ensures answer { (h : CommandHistory) (lines : List ℕ) → HasSaid self.old h lines →
-            IfOk result (λ answer. answer ≡ would_answer (steered_in self.old) h first command) }
-        ensures said { (h : CommandHistory) (lines : List ℕ) → HasSaid self.old h lines → HasSaid self.new h lines }
-        ensures script { script_in self.new ≡ script_in self.old }
-    {
-        let mut opening = DebugOpening::new(alloc, &self.debugger)?;
-        self.debugger.save(&mut opening);
-        obey_first(&mut self.debugger, first, self.instant);
-        let answer = self.debugger.obey(Timed {
-            command,
-            raw: self.instant,
-        });
-        self.debugger.restore(&opening);
-        Ok(answer)
     }
 }

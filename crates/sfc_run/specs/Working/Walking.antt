@@ -71,7 +71,7 @@ module _ {X C : Type 0} (names plant : PlantData) (table : List BreakCondition) 
   WaitsOr point condition old new (Err error) =
       StaysAt old new
       ⊎ ((refusal : CallError) × CallsWaiting names plant table limit reads point condition old.console new.console (Err refusal)
-        × (new.errors ≡ old.errors))
+      × (new.errors ≡ old.errors))
 
   -- the same of what a line of the session of a run says
   abbrev pub ObeysLineOr : ℕ → RunLine → Scene X C → Scene X C → Result Bool AllocError → Type 0

@@ -1,6 +1,4 @@
 use Rattle.std.proofs.Common.{◌≡◌, ◌∙◌, [], List, ℕ, true, false, ap, append-nil, refl, rules, subst, sym}
-use Rattle.sfc_plant.specs.Plants.{PlantData}
-use Rattle.sfc_control.specs.sfc_core.Agreement.{plant_of}
 use Rattle.sfc_control.specs.sfc_debug.Steered.{steered_by}
 use Rattle.sfc_control.specs.sfc_debug.declared.debugger.Debugger.{Debugger}
 use Rattle.sfc_run.specs.Following.{steered_in}
@@ -17,15 +15,14 @@ returns c =
     let same = c.debugger-debugger.ensures in
     let line : c.deref.result.now ≡ record_line steered row =
     c.deref.ensures.value ∙ c.in_ok-line.ensures ∙ ap (λ (d : Debugger). record_line (steered_by d) row) same in
-    let plant : plant_of c.resource.result.now ≡ steered.plant = c.resource.ensures.plant ∙ ap (λ (d : Debugger). (steered_by d).plant) same in
     let refused = rw c.if-branch.false at c.in_ok-is_read_back.ensures.no in (
       [],
       sym (append-nil c.args.out.now.items),
       record {
         line = λ on. absurd (let bad : false ≡ true = on in cc);
         none = λ off. refl;
-        stays = λ on level back. absurd (refused (subst (λ (p : PlantData). IsReadBack p c.deref.result.now row) (sym plant)
-            (subst (λ (b : List ℕ). IsReadBack steered.plant b row) (sym line) back)));
+        stays = λ on level back. absurd (refused (subst (λ (d : Debugger). IsReadBack (steered_by d) c.deref.result.now row) (sym same)
+            (subst (λ (b : List ℕ). IsReadBack steered b row) (sym line) back)));
         ended = λ off. absurd (let bad : true ≡ false = sym (ap goes_on is_on) ∙ off in cc);
       },
     )
