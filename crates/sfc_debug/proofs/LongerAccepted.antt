@@ -1,5 +1,5 @@
 -- Accepted commands name conditions of their table alone, so a longer one changes neither them nor what they leave.
-use Rattle.std.proofs.Common.{◌≡◌, refl, sym, ap, subst, ℕ, true, ◌<◌, List, [], ◌∷◌, ◌++◌, length, ◌+◌, Option, Some, None, ℤ}
+use Rattle.std.proofs.Common.{◌≡◌, refl, sym, ap, subst, ℕ, true, ◌<◌, List, [], ◌∷◌, ◌++◌, length, ◌+◌, Option, Some, None, ℤ, rules}
 use Rattle.std.specs.Prelude.{IsOk, slice_get}
 use Rattle.std.proofs.lemmas.Option.{slice_get_within}
 use Rattle.sfc_base.specs.declared.ids.ProgId.{ProgId}

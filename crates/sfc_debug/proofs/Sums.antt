@@ -1,13 +1,12 @@
 -- The run instant as a sum, the rows that are wanted, and the number of breakpoints in the work of a scan.
-use Rattle.std.proofs.Common.{◌≡◌, ◌∙◌, refl, sym, ap, subst, arith, ℕ, ◌+◌, ◌≤◌, List, [], ◌∷◌, length, filter, Bool, true, false, cond, Result, Ok, Err}
-use Rattle.std.proofs.Common.{ℤ, pos, ◌+ℤ◌, ◌-ℤ◌}
+use Rattle.std.proofs.Common.{◌≡◌, ◌∙◌, refl, ap, arith, ◌+◌, ◌≤◌, List, [], ◌∷◌, length, filter, Ok}
+use Rattle.std.proofs.Common.{ℤ, ◌+ℤ◌, ◌-ℤ◌}
 use Rattle.std.proofs.lemmas.Int.{ints}
 use Rattle.sfc_base.specs.declared.ids.TaskId.{TaskId}
 use Rattle.sfc_plant.specs.Plants.{PlantData}
 use Rattle.sfc_events.specs.declared.command.Answer.{Answer}
 use Rattle.sfc_events.specs.declared.command.Command.{Command}
 use Rattle.sfc_events.specs.declared.command.Command.TheVariants.{Scan}
-use Rattle.sfc_events.specs.declared.command.TraceRow.{TraceRow}
 use Rattle.sfc_events.specs.declared.event.Event.TheVariants as events
 use Rattle.sfc_core.specs.Work.{event_work}
 use Rattle.sfc_debug.specs.declared.break_condition.BreakCondition.{BreakCondition}
@@ -15,11 +14,11 @@ use Rattle.sfc_debug.specs.declared.breakpoint.Breakpoint.{Breakpoint}
 use Rattle.sfc_debug.specs.declared.mode.Mode.{Mode}
 use Rattle.sfc_debug.specs.declared.mode.Mode.TheVariants.{Running, Stopped, Ended}
 use Rattle.sfc_debug.specs.declared.trace_mask.TraceMask.{TraceMask}
-use Rattle.sfc_debug.specs.Histories.{TimedCommand, CommandHistory}
+use Rattle.sfc_debug.specs.Histories.{CommandHistory}
 use Rattle.sfc_debug.specs.Meaning.{IsAccepted}
 use Rattle.sfc_debug.specs.RunClock.{delta_of, running_time}
 use Rattle.sfc_debug.specs.States.{state_of}
-use Rattle.sfc_debug.specs.Sums.{latest_raw, mode_behind, counted, running_stretches, single_deltas, answer_in, all_rows, wanted_rows, nodes_of_points}
+use Rattle.sfc_debug.specs.Sums.{latest_raw, counted, running_stretches, single_deltas, answer_in, all_rows, wanted_rows, nodes_of_points}
 use Rattle.sfc_debug.specs.Tracing.{is_wanted, row_of, with_row}
 use Rattle.sfc_debug.specs.Verdict.{verdict}
 use Rattle.sfc_debug.specs.Work.{command_work, points_work, condition_nodes}

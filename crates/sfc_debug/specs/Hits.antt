@@ -1,5 +1,5 @@
 -- When a scan hits a breakpoint (our choice).
-use Rattle.std.specs.Prelude.{ℕ, ◌==◌, Bool, true, false, ◌&&◌, ◌||◌, List, [], ◌∷◌, slice_get, Option, Some}
+use Rattle.std.specs.Prelude.{Bool, true, false, ◌&&◌, ◌||◌, List, [], ◌∷◌, slice_get, Option, Some}
 use Rattle.std.specs.Prelude.{None, Result, Ok}
 use Rattle.sfc_base.specs.declared.value.Value.{Value}
 use Rattle.sfc_base.specs.declared.value.Value.TheVariants as value

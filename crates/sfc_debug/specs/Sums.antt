@@ -13,7 +13,7 @@ use Rattle.sfc_debug.specs.declared.trace_mask.TraceMask.{TraceMask}
 use Rattle.sfc_debug.specs.Histories.{CommandHistory}
 use Rattle.sfc_debug.specs.RunClock.{delta_of}
 use Rattle.sfc_debug.specs.States.{state_of}
-use Rattle.sfc_debug.specs.Tracing.{is_wanted, row_of, with_row}
+use Rattle.sfc_debug.specs.Tracing.{is_wanted, row_of}
 use Rattle.sfc_debug.specs.Verdict.{verdict}
 use Rattle.sfc_debug.specs.Work.{condition_nodes}
 

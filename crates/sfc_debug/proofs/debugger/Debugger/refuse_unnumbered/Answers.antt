@@ -1,4 +1,4 @@
-use Rattle.std.proofs.Common.{◌≡◌, ◌∙◌, ℕ, ℤ, length, Option, Some, None, Result, Ok, Err, w64, SFits, to_z-of_z, rules}
+use Rattle.std.proofs.Common.{◌≡◌, ◌∙◌, ℕ, ℤ, Option, Some, None, Err, w64, SFits, to_z-of_z, rules}
 use Rattle.std.specs.Prelude.{unwrap_or}
 use Rattle.sfc_events.specs.declared.command.Command.TheVariants.{BreakIf}
 use Rattle.sfc_events.specs.declared.refusal.Refusal.{Refusal}
