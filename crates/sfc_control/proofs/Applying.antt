@@ -1,5 +1,5 @@
 -- A command that the debugger of a book accepted, or that was barred.
-use Rattle.std.proofs.Common.{◌≡◌, ℕ, ◌+◌, ◌-◌, ◌≤◌, ◌⊎◌, All, take, Bool, true, false, List, [], ◌∷◌, ◌++◌, ℤ, refl, sym, ◌∙◌, length, arith, rules, Some, None, Ok, Err}
+use Rattle.std.proofs.Common.{◌≡◌, ℕ, ◌+◌, ◌-◌, ◌≤◌, ◌⊎◌, All, take, List, [], ◌∷◌, ◌++◌, ℤ, refl, sym, ◌∙◌, length, arith, None, Ok}
 use Rattle.std.proofs.Math.Logic.{∥∥₁_elim}
 use Rattle.std.proofs.Props.{props}
 use Rattle.std.specs.Bool.{MatchBool}
@@ -9,7 +9,6 @@ use Rattle.sfc_plant.specs.Plants.{PlantData}
 use Rattle.sfc_events.specs.declared.command.Answer.{Answer}
 use Rattle.sfc_events.specs.declared.command.Command.{Command}
 use Rattle.sfc_events.specs.declared.command.TraceRow.{TraceRow}
-use Rattle.sfc_events.specs.declared.refusal.Refusal.{Refusal}
 use Rattle.sfc_debug.specs.declared.break_condition.BreakCondition.{BreakCondition}
 use Rattle.sfc_debug.specs.declared.debugger.Debugger.{Debugger}
 use Rattle.sfc_debug.specs.declared.opening.DebugOpening.{DebugOpening}

@@ -1,6 +1,6 @@
 -- A longer table of conditions changes nothing of what a book has: its entries are accepted commands, which name conditions of the shorter one.
 use Rattle.std.proofs.Common.{◌≡◌, ℕ, zero, suc, ◌+◌, ◌-◌, All, List, [], ◌∷◌, ◌++◌, refl, sym, ◌∙◌, ap, subst, append-nil, length, take, drop, Some, Result, Ok, Err}
-use Rattle.std.specs.Prelude.{IsOk, is_ok, OnOk, OnErr, slice_get}
+use Rattle.std.specs.Prelude.{is_ok, OnOk, OnErr, slice_get}
 use Rattle.std.proofs.Math.Logic.{∥∥₁_map}
 use Rattle.std.proofs.lemmas.List.Elements.{All-weaker}
 use Rattle.sfc_plant.specs.Plants.{PlantData}
@@ -18,7 +18,7 @@ use Rattle.sfc_debug.specs.Verdict.{verdict}
 use Rattle.sfc_debug.proofs.Longer.{state_same, verdict_same}
 use Rattle.sfc_debug.proofs.LongerAccepted.{named, named_one, past_same}
 use Rattle.sfc_control.specs.declared.entry.Entry.{Entry}
-use Rattle.sfc_control.specs.LegalHistory.{timed, told, commands_of, verdicts, answers, IsLegalAfter, IsLegal}
+use Rattle.sfc_control.specs.LegalHistory.{timed, told, commands_of, verdicts, IsLegalAfter, IsLegal}
 use Rattle.sfc_control.specs.Rows.{rows_after, IsRow}
 
 -- ---- entries of a legal history

@@ -1,5 +1,5 @@
 -- A refusal by NotDue holds until the release that it tells.
-use Rattle.std.proofs.Common.{◌≡◌, ◌⊎◌, inl, inr, ℕ, ◌<◌, ◌^◌, ◌||◌, pos, Bool, true, false, not, List, [], ◌∷◌, ℤ, ◌≤ℤ◌, ◌<ℤ◌, refl, sym, ◌∙◌, ap, subst, cond, length, arith, Option, Some, None, Result, Ok, Err, Contains, nat_lt, int_lt}
+use Rattle.std.proofs.Common.{◌≡◌, inl, inr, ℕ, ◌<◌, ◌^◌, ◌||◌, pos, Bool, true, false, not, List, [], ◌∷◌, ℤ, ◌≤ℤ◌, ◌<ℤ◌, refl, sym, ◌∙◌, subst, cond, length, arith, Option, Some, None, Result, Ok, Err, Contains, nat_lt, int_lt}
 use Rattle.std.proofs.lemmas.Bool.Decides.{nat_tests}
 use Rattle.std.proofs.lemmas.Int.{ints, by_lt_z}
 use Rattle.std.specs.Prelude.{◌+ℤ◌, ◌-ℤ◌}
@@ -10,17 +10,17 @@ use Rattle.sfc_events.specs.declared.command.Command.TheVariants as commands
 use Rattle.sfc_events.specs.declared.event.Event.TheVariants.{Scan}
 use Rattle.sfc_events.specs.declared.event.Outcome.{Outcome}
 use Rattle.sfc_events.specs.declared.refusal.Refusal.{Refusal}
-use Rattle.sfc_events.specs.declared.refusal.Refusal.TheVariants.{InstantRange, ClockBack, UnknownTask, NotDue, Stopped, Ended, HistoryFull}
+use Rattle.sfc_events.specs.declared.refusal.Refusal.TheVariants.{InstantRange, ClockBack, UnknownTask, NotDue, Ended, HistoryFull}
 use Rattle.sfc_events.specs.History.{History, last_instant}
 use Rattle.sfc_debug.specs.sfc_core.Due.{singles_of, calls_at}
-use Rattle.sfc_debug.specs.sfc_core.Releases.{IsMultipleUntil, IsUnserved, single_after}
+use Rattle.sfc_debug.specs.sfc_core.Releases.{IsMultipleUntil, single_after}
 use Rattle.sfc_debug.specs.sfc_core.Verdict as core
 use Rattle.sfc_debug.specs.sfc_core.Verdict.{or_then, refused_if, first_refusal, is_out_of_range, instant_refusal, task_refusal, turn_refusal}
 use Rattle.sfc_debug.proofs.of_sfc_core.Releasing.{waits_until_now}
 use Rattle.sfc_debug.proofs.of_sfc_core.Turns.{picked_first, waits_not, idle_refused}
 use Rattle.sfc_debug.proofs.of_sfc_tasks.MultipleLemmas.{next_found, none_next}
 use Rattle.sfc_debug.proofs.of_sfc_tasks.Waited.{none_contained}
-use Rattle.sfc_debug.specs.sfc_tasks.Meaning.{IsMultipleBetween, IsNext}
+use Rattle.sfc_debug.specs.sfc_tasks.Meaning.{IsNext}
 use Rattle.sfc_debug.specs.sfc_tasks.Multiples.{next_multiple, next_release}
 use Rattle.sfc_debug.specs.sfc_tasks.Releases.{interval_of, waiting, waits_since, first_of}
 use Rattle.sfc_debug.specs.declared.break_condition.BreakCondition.{BreakCondition}

@@ -1,9 +1,8 @@
-use Rattle.std.proofs.Common.{rules, ◌≡◌, ◌+◌, ◌-◌, ◌∙◌, List, [], ap, arith, sym, subst, length, ℤ, Some, SFits, w64, to_z-of_z}
+use Rattle.std.proofs.Common.{rules, ◌≡◌, ◌+◌, ◌-◌, ◌∙◌, List, [], ap, arith, sym, subst, length, Some, SFits, w64, to_z-of_z}
 use Rattle.std.specs.Prelude.{◌-ℤ◌, slice_get}
 use Rattle.sfc_debug.specs.Agreement.{plant_of, table_of}
 use Rattle.sfc_control.specs.declared.entry.Entry.{Entry}
 use Rattle.sfc_control.specs.Histories.{whole}
-use Rattle.sfc_control.specs.Waiting.{clock_of}
 use Rattle.sfc_control.proofs.Lags.{raw_held, none_held, lag_none, instant_of, lag_fits}
 use Rattle.sfc_control.proofs.book.Book.lag.Goals as goal
 

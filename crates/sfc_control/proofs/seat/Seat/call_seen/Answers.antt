@@ -1,11 +1,9 @@
 use Rattle.std.proofs.Common.{rules, subst, SFits, w64, to_z-of_z}
 use Rattle.std.proofs.lemmas.Result.{IfOk-weaker}
-use Rattle.std.specs.Prelude.{IfOk, max}
 use Rattle.sfc_plant.specs.Plants.{PlantData}
 use Rattle.sfc_control.specs.Books.{accepted, first, table}
 use Rattle.sfc_control.specs.LegalHistory.{IsLegal}
 use Rattle.sfc_control.proofs.Kept.{met_by}
-use Rattle.sfc_control.proofs.Lags.{entries_then}
 use Rattle.sfc_control.proofs.seat.Seat.call_seen.Goals as goal
 
 pub returns-clause-entered : goal.returns-clause-entered

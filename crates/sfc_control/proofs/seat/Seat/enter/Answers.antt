@@ -1,4 +1,4 @@
-use Rattle.std.proofs.Common.{rules, ◌≡◌, sym, ◌∙◌, ap, ◌<◌, ◌≤◌, ◌+◌, [], ◌∷◌, ◌++◌, List, length, length-append, arith, subst}
+use Rattle.std.proofs.Common.{rules, sym, ◌∙◌, ap, ◌<◌, ◌≤◌, ◌+◌, [], ◌∷◌, ◌++◌, List, length, length-append, arith, subst}
 use Rattle.std.specs.Prelude.{max}
 use Rattle.sfc_plant.specs.Plants.{PlantData}
 use Rattle.sfc_debug.specs.declared.break_condition.BreakCondition.{BreakCondition}
