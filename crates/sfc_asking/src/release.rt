@@ -50,21 +50,22 @@ fn release_by(refused: Option<Refusal>) -> Release {
     }
 }
 
-// When the task of this number is scanned next.
-fn release_of(debugger: &Debugger, number: usize) -> Release {
+// When a task is scanned next.
+fn release_of(debugger: &Debugger, task: TaskId) -> Release {
     if debugger.mode() == Mode::Ended {
         return Release::Never;
     }
-    let scan = Event::Scan(TaskId(number as u8));
+    let scan = Event::Scan(task);
     release_by(debugger.resource().refuse(scan, debugger.run_instant()))
 }
 
 /// When each task is scanned next, as of the last accepted command: of a halted resource, once it goes on. The one error is that memory was
 /// refused.
 pub fn releases(alloc: Global, debugger: &Debugger) -> Result<Vec<Release>, AllocError> {
+    let tasks = debugger.resource().plant().tasks().len();
     let mut found = Vec::new(alloc);
-    'tasks: for number in 0..debugger.resource().plant().tasks().len() {
-        found.push(release_of(debugger, number))?;
+    'tasks: for number in 0..tasks {
+        found.push(release_of(debugger, TaskId(number as u8)))?;
     }
     Ok(found)
 }
