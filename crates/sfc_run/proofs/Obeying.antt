@@ -1,16 +1,16 @@
 -- Lines that were obeyed one after the other.
-use Rattle.std.proofs.Common.{◌≡◌, ℕ, ◌+◌, Bool, true, false, ◌||◌, List, [], ◌∷◌, ◌++◌, length, ℤ, Option, Result, Ok, Err, refl, sym, ap, subst, ◌∙◌, arith, append_assoc, inr}
+use Rattle.std.proofs.Common.{◌≡◌, ℕ, ◌+◌, Bool, true, false, ◌||◌, List, [], ◌∷◌, ◌++◌, length, ℤ, Some, Result, Ok, Err, refl, sym, ap, subst, ◌∙◌, arith, append_assoc, inr}
 use Rattle.std.specs.declared.alloc.AllocError.{AllocError}
 use Rattle.sfc_plant.specs.Plants.{PlantData}
-use Rattle.sfc_events.specs.declared.command.Command.{Command}
 use Rattle.sfc_control.specs.sfc_debug.declared.break_condition.BreakCondition.{BreakCondition}
-use Rattle.sfc_control.specs.declared.call_error.CallError.{CallError}
-use Rattle.sfc_control.specs.declared.receipt.Receipt.{Receipt}
-use Rattle.sfc_run.specs.Asks.{run_line}
+use Rattle.sfc_run.specs.Asks.{Plain, Waits, run_line}
+use Rattle.sfc_replay.specs.sfc_script.Commands.{Conditional}
+use Rattle.sfc_replay.specs.sfc_script.Scripts.{ConditionReads}
+use Rattle.sfc_events.specs.declared.command.Command.TheVariants.{BreakIf}
+use Rattle.sfc_replay.specs.sfc_script.declared.session_line.SessionLine.{SessionLine}
 use Rattle.sfc_replay.specs.sfc_script.declared.session_line.SessionLine.TheVariants.{Says}
-use Rattle.sfc_run.specs.declared.console.Console.{Console}
-use Rattle.sfc_run.specs.Holding.{Calls, ObeysAll, ObeysLine, ObeysFor, ObeysFront, Scene, Stops, error_told, scene}
-use Rattle.sfc_run.specs.Working.Walking.{ObeysAllOr, ObeysLineOr, ObeysOr, TellsOr}
+use Rattle.sfc_run.specs.Holding.{ObeysAll, ObeysLine, ObeysFor, ObeysFront, Scene, Stops}
+use Rattle.sfc_run.specs.Working.Walking.{ObeysAllOr, ObeysLineOr, ObeysOr, WaitsOr}
 
 pub or_false : (b : Bool) → (b || false) ≡ b
 or_false true = refl
@@ -24,15 +24,27 @@ module _ {X C : Type 0} (names plant : PlantData) (table : List BreakCondition) 
   abbrev All : ℕ → List (List ℕ) → Scene X C → Scene X C → Bool → Type 0
   All number lines old new untold = ObeysAll names plant table limit reads number lines old new untold
 
-  -- an answer that is a refusal, and was told or not
-  pub refused_or : (number : ℕ) (command : Command) (old new : Console X C) (before after : Option (List ℕ)) (answer : Result Receipt CallError)
-      (error : CallError) → answer ≡ Err error → Calls names plant table limit reads command old new answer → (r : Result Bool AllocError)
-      → TellsOr before after (error_told names error) r
-      → ObeysOr names plant table limit reads number (Says command) (scene old before) (scene new after) r
-  refused_or number command old new before after answer error is calls (Ok untold) told =
-      (Err error, subst (λ (a : Result Receipt CallError). Calls names plant table limit reads command old new a) is calls, told)
-  refused_or number command old new before after answer error is calls (Err e) told =
-      inr (error, subst (λ (a : Result Receipt CallError). Calls names plant table limit reads command old new a) is calls, told)
+  -- what a line of a session says
+  pub obeys_plain : (number : ℕ) (said : SessionLine) (old new : Scene X C) (r : Result Bool AllocError)
+      → ObeysOr names plant table limit reads number said old new r → ObeysLineOr names plant table limit reads number (Plain said) old new r
+  obeys_plain number said old new (Ok untold) obeyed = obeyed
+  obeys_plain number said old new (Err error) stopped = stopped
+
+  -- a breakpoint that waits for the condition which its text is
+  pub obeys_break : (number : ℕ) (c : Conditional) (condition : BreakCondition) (old new : Scene X C) (r : Result Bool AllocError)
+      → ConditionReads names 0 c.place.program c.text (Some (condition ∷ []))
+      → WaitsOr names plant table limit reads c.place.point condition old new r
+      → ObeysLineOr names plant table limit reads number (Waits c) old new r
+  obeys_break number c condition old new (Ok untold) is waits = (Some (condition ∷ []), is, waits)
+  obeys_break number c condition old new (Err error) is stopped = inr (Some (condition ∷ []), is, stopped)
+
+  -- one of a program that isn't there
+  pub obeys_unknown : (number : ℕ) (c : Conditional) (old new : Scene X C) (r : Result Bool AllocError)
+      → ConditionReads names 0 c.place.program c.text (Some [])
+      → ObeysOr names plant table limit reads number (Says (BreakIf c.place.program c.place.point (record { 0 = 0 }))) old new r
+      → ObeysLineOr names plant table limit reads number (Waits c) old new r
+  obeys_unknown number c old new (Ok untold) is obeyed = (Some [], is, obeyed)
+  obeys_unknown number c old new (Err error) is stopped = inr (Some [], is, stopped)
 
   -- one line
   pub obeys_one : (number : ℕ) (line : List ℕ) (old new : Scene X C) (untold : Bool)

@@ -257,7 +257,7 @@ plain_command commands.Epoch within = (refl, refl)
 plain_row : (plant : PlantData) (h : CommandHistory) (row : TraceRow) → AnswersSo (opened_on plant) h row
     → only [] row ≡ record { commands = command_of row ∷ []; table = [] }
 plain_row plant h row so =
-    let plain = plain_command row.command (named_one plant [] h row.command row.raw (subst IsOk (sym so) tt)) in
+    let plain = plain_command row.command (named_one plant [] h row.command row.raw (subst IsOk (sym so) refl)) in
     λ i. record { commands = (plain.0 i, row.raw) ∷ []; table = plain.1 i }
 
 module _ (plant : PlantData) where

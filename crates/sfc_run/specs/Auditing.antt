@@ -15,6 +15,7 @@ use Rattle.sfc_control.specs.declared.work.Why.{Why}
 use Rattle.sfc_control.specs.declared.work.Why.TheVariants.{Memory}
 use Rattle.sfc_control.specs.declared.work.WorkerEnd.{WorkerEnd}
 use Rattle.sfc_control.specs.Closing.{AllRight, IsFirstWrong, all_calls}
+use Rattle.sfc_control.specs.Tables.{Begins}
 use Rattle.sfc_run.specs.declared.audit.Audited.{Audited}
 use Rattle.sfc_run.specs.declared.audit.Returned.{Returned}
 use Rattle.sfc_run.specs.declared.console.Console.{Console}
@@ -47,10 +48,11 @@ module _ {X : Type 0} where
     pub memory : returned.memory ≡ list_any (λ end. is_memory end.why) ends
 
   -- There are entries, as many as the seats have counted. All receipts and all seats' counts are right for them, and it tells how many they
-  -- are, and whether a program stands faulted behind their commands; or something is wrong for them.
+  -- are, and whether a program stands faulted behind their commands, with conditions that the table may have got; or something is wrong for them.
   abbrev pub Audits : PlantData → List BreakCondition → List (Seat X) → List Receipt → Option Audited → Type 0
   Audits plant table seats receipts (Some audited) =
-      (es : List Entry) × AllRight es seats receipts × (audited.accepted ≡ length es) × (audited.accepted ≡ all_calls seats)
-      × (audited.has_fault ≡ any_faulted plant (erasure plant table (commands_of es)) (length plant.instances))
+      (all : List BreakCondition) × (es : List Entry) × Begins table all × AllRight es seats receipts × (audited.accepted ≡ length es)
+      × (audited.accepted ≡ all_calls seats)
+      × (audited.has_fault ≡ any_faulted plant (erasure plant all (commands_of es)) (length plant.instances))
   Audits plant table seats receipts None =
       (es : List Entry) × (number : ℕ) × (index : ℕ) × IsFirstWrong es seats receipts number index × (length es ≡ all_calls seats)

@@ -21,7 +21,8 @@ module _ {X C : Type 0} where
 
   -- the same of a breakpoint that waits for a condition, whatever number that has
   abbrev pub KeepsWaiting : ProgId → Point → Console X C → Console X C → Result Receipt CallError → Type 0
-  KeepsWaiting program point old new answer = (id : CondId) × Keeps (BreakIf program point id) old new answer
+  KeepsWaiting program point old new (Ok receipt) = (id : CondId) × Keeps (BreakIf program point id) old new (Ok receipt)
+  KeepsWaiting program point old new (Err error) = (new.receipts.items ≡ old.receipts.items) × (new.seat ≡ old.seat)
 
   -- the receipt of the call that ends a session is kept where there is memory for it
   abbrev pub KeepsLast : Console X C → Console X C → Result Receipt CallError → Type 0

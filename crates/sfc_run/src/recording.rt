@@ -1,7 +1,8 @@
 //! The record of a run: its accepted commands as a script, as they come.
 
 ghost use Rattle.std.specs.Bool.{OnTrue, OnFalse};
-ghost use Rattle.std.specs.Prelude.{◌≡◌, ◌++◌, ◌||◌, List, ℕ, IfOk, OnOk, false, is_some, option_map};
+ghost use Rattle.std.specs.Option.{option_to_list};
+ghost use Rattle.std.specs.Prelude.{◌≡◌, ◌++◌, ◌||◌, List, ℕ, IfOk, OnOk, false, is_some, option_map, slice_get};
 ghost use Rattle.sfc_control.specs.sfc_debug.Steered.{steered_by};
 ghost use Rattle.sfc_replay.specs.sfc_script.Answers.{script_data};
 ghost use Rattle.sfc_run.specs.Printing.{Passes};
@@ -43,18 +44,28 @@ fn first_numbered(command: Command) -> Command
     }
 }
 
+// Whether these conditions are the one of a table at a place, or none where it has none there.
+fn are_at(table: &[BreakCondition], id: CondId, conditions: &[BreakCondition]) -> bool
+    ensures yes { OnTrue result (conditions.now ≡ option_to_list (slice_get table.now id.0)) }
+    ensures no { OnFalse result (conditions.now ≡ option_to_list (slice_get table.now id.0) → ⊥) }
+{
+    match table.get(usize::from(id.0)) {
+        Some(own) => match conditions {
+            [one] => one.is_same(own),
+            _ => false,
+        },
+        None => conditions.is_empty(),
+    }
+}
+
 // Whether these conditions are the one for which a command waits, or none where it doesn't.
 fn are_brought_along(debugger: &Debugger, command: Command, conditions: &[BreakCondition]) -> bool
     ensures yes { OnTrue result (conditions.now ≡ rules.brought_along (steered_by debugger.now).table command) }
     ensures no { OnFalse result (conditions.now ≡ rules.brought_along (steered_by debugger.now).table command → ⊥) }
 {
-    let Command::BreakIf(_, _, id) = command else {
-        return conditions.is_empty();
-    };
-    match (debugger.conditions().get(usize::from(id.0)), conditions) {
-        (Some(own), [one]) => one.is_same(own),
-        (None, []) => true,
-        _ => false,
+    match command {
+        Command::BreakIf(_, _, id) => are_at(debugger.conditions(), id, conditions),
+        _ => conditions.is_empty(),
     }
 }
 

@@ -226,10 +226,11 @@ fn obey_line<'a, L: OpenedWith, R: Wait, C: Clock, E: Write>(
         (scene console.old (E.contents errors.old)) (scene console.new (E.contents errors.new)) result }
 {
     desk.asks.put(desk.rt, desk.alloc, line);
-    match read_conditional(desk.names.resource(), line) {
+    let resource = desk.names.resource();
+    match read_conditional(resource, line) {
         Some(conditional) => obey_waiting(desk, console, conditional, line_number, errors),
         None => {
-            let said = read_plain_line(desk.names.resource(), line);
+            let said = read_plain_line(resource, line);
             obey_plain(desk, console, said, line_number, errors)
         }
     }

@@ -1,8 +1,7 @@
-use Rattle.std.proofs.Common.{◌∙◌, refl, sym, subst}
+use Rattle.std.proofs.Common.{◌∙◌, ap, refl, sym, subst}
 use Rattle.std.proofs.lemmas.Result.{err_from_is_err_and}
 use Rattle.std.specs.Prelude.{Option, IsSome}
 use Rattle.sfc_control.specs.sfc_debug.Steered.{Steered}
-use Rattle.sfc_run.specs.Resuming.{IsReady}
 use Rattle.sfc_run.specs.declared.draining.Drained.{Drained}
 use Rattle.sfc_run.proofs.RowLines.{told_none, told_more, told_front, reaches_same, reaches_on, reached}
 use Rattle.sfc_run.proofs.printing.print_rows.Goals as goal
@@ -41,7 +40,7 @@ returns-in-Some-drained-clause-lines g c =
     c.rounds.invariant.lines c.in_ok-some.ensures.lines
 
 pub returns-in-Some-drained-clause-known : goal.returns-in-Some-drained-clause-known
-returns-in-Some-drained-clause-known g c =
+returns-in-Some-drained-clause-known g c some =
     let old = c.args.printing.now.watch.tail in
     let new = c.print_some.new.printing.watch.tail in
     reached old new (reaches_on old c.rounds.printing.watch.tail new c.rounds.invariant.known c.in_ok-some.ensures.known)
@@ -53,12 +52,8 @@ rounds-preserved g c = record {
       c.rounds.invariant.lines c.in_ok-some.ensures.lines;
   known = reaches_on c.args.printing.now.watch.tail c.rounds.printing.watch.tail c.print_some.new.printing.watch.tail
       c.rounds.invariant.known c.in_ok-some.ensures.known;
-  follows =
-      let steered = c.print_some.ensures.steered ∙ c.rounds.invariant.follows.0 in (
-        steered,
-        record {
-          ready = subst (λ (s : Steered). IsReady s c.catch_up-is_saved.new.self) (sym steered) c.catch_up-is_saved.ensures;
-          alike = c.print_some.ensures.ready.alike;
-        },
-      );
+  follows = (
+    ap (λ (s : Steered). s.plant) c.print_some.ensures.steered ∙ c.rounds.invariant.follows.0,
+    record { ready = c.catch_up-is_saved.ensures; alike = c.print_some.ensures.ready.alike },
+  );
 }
