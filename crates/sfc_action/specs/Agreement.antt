@@ -6,6 +6,7 @@ use Rattle.sfc_action.specs.declared.control_state.ControlState.{ControlState}
 use Rattle.sfc_action.specs.ActionControl.{Scan}
 use Rattle.sfc_action.specs.Private.StepGiving.{StepGiven, AreGivenTo}
 use Rattle.sfc_action.specs.Private.Keeping.{AreFor, IsStateAfter}
+use Rattle.sfc_action.specs.Private.Noting.{IsNoted}
 
 -- how many actions it is for
 abbrev pub action_total : ControlState → ℕ
@@ -33,9 +34,14 @@ abbrev pub scan_input : Tabled → List evolution.Scan → List ℤ → ℤ → 
 scan_input tables scans times t =
     record { active = evolution.active_steps tables (evolution.rows_of tables scans); times = times; at = t }
 
--- they keep the same, but for which actions the latest scan executed
-unfoldable pub IsAlike : ControlState → ControlState → Type 0
-IsAlike a b = record a { executed = b.executed } ≡ b
+-- it is for these tables, and before its latest scan all answers were those after these scans, the newest first; so they are where it is
+-- undone
+pub record Notes (tables : Tabled) (state : ControlState) (h : List Scan) : Type 0 where
+  pub size : AreFor tables state
+  pub undone : (before : ControlState) → IsNoted before state → IsStateAfter tables before h
+
+unfoldable pub ControlsNoted : Tabled → ControlState → List Scan → Type 0
+ControlsNoted tables state h = Notes tables state h
 
 -- they are what the associations of each step of these tables give
 unfoldable pub AreInputsOf : Tabled → List StepGiven → Type 0

@@ -20,3 +20,5 @@ pub mod Keeping
 pub mod Listing
 pub mod Resting
 pub mod Singles
+pub mod Noting
+pub mod Resetting

@@ -4,7 +4,7 @@ use Rattle.sfc_tables.specs.Tables.{Tabled}
 
 -- of action control in a scan that reads its inputs
 abbrev pub step_work : Tabled → ℕ
-step_work tables = length tables.initial + 4 * length tables.associations + 4 * length tables.actions
+step_work tables = length tables.initial + 6 * length tables.associations + 4 * length tables.actions
 
 -- of action control in a scan, which may ask first whether it is at rest
 abbrev pub control_work : Tabled → ℕ

@@ -1,6 +1,6 @@
 //! On-delays of actions.
 
-ghost use Rattle.std.specs.Prelude.{◌≡◌, ◌<◌, ◌*◌, ◌||◌, ◌^◌, ◌≤ℤ◌, pos, true, cond, length, slice_set, is_some, All};
+ghost use Rattle.std.specs.Prelude.{◌≡◌, ◌<◌, ◌*◌, ◌||◌, ◌^◌, ◌≤ℤ◌, pos, true, cond, length, map, slice_set, is_some, All};
 ghost use Rattle.sfc_base.specs.Ticks.{Within};
 ghost use Rattle.sfc_flags.specs.Flags.{flag};
 ghost use Rattle.sfc_timers.specs.Past.{on_delay_in};
@@ -8,6 +8,8 @@ ghost use Rattle.sfc_action.specs.Private.TimedSets.{AreAll, with_action};
 ghost use Rattle.sfc_action.specs.Private.Marking.{AreSized};
 ghost use Rattle.sfc_action.specs.Private.Storing.{AreStores};
 ghost use Rattle.sfc_action.specs.Private.Delays.{input_of, preset_of, IsStepped, AreStepped, gathered, AreOf};
+ghost use Rattle.sfc_action.specs.Private.Keeping.{delay_of};
+ghost use Rattle.sfc_action.specs.Private.Listing.{IsNew};
 ghost use Rattle.sfc_action.specs.Private.Live.{AreIdle, IsIdle};
 ghost use Rattle.sfc_action.specs.Private.Calling.{AreAwake};
 
@@ -102,6 +104,20 @@ fn note(live: &mut Flags, elapsed: &mut Timed, place: usize, block: &Block) -> b
         elapsed.add(block.qualifier, block.action.0);
     }
     is_live
+}
+
+/// Each on-delay is as if it had seen no call.
+pub fn forget_all(blocks: &mut [Block], ticks: &mut Ticks)
+    ensures len { length blocks.new ≡ length blocks.old }
+    ensures same { map delay_of blocks.new ≡ map delay_of blocks.old }
+    ensures fresh { All IsNew blocks.new }
+    ensures ticks { Within (length blocks.old) ticks.old ticks.new }
+{
+    for k in 0..blocks.len() {
+        ticks.tick();
+        blocks[k].delay = OnDelay::new();
+        blocks[k].elapsed = false;
+    }
 }
 
 /// One scan of the live on-delays, which are those that have their input and those that aren't idle; the others stay as they are.

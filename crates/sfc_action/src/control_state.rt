@@ -4,19 +4,22 @@ use crate::blocks::Block;
 use crate::control_scan::ControlScan;
 use crate::delays::Delays;
 use crate::kept::Kept;
+use crate::notes::ControlNotes;
 use crate::state_words::StateWords;
 use sfc_base::ticks::Ticks;
 use sfc_flags::flags::Flags;
 use std::alloc::{AllocError, Global};
 
 /// Of each action the inputs P, P1 and P0 of the newest scan, its flip-flops, its Q and whether it was executed, and the
-/// on-delays of all. `is_single` tells that no action has two associations by SD or SL.
+/// on-delays of all; and what the newest scan changed, so that it can be undone. `is_single` tells that no action has two associations by
+/// SD or SL.
 pub struct ControlState {
     pub kept: Kept,
     pub q: Flags,
     pub executed: Flags,
     pub blocks: Delays,
     pub is_single: bool,
+    pub notes: ControlNotes,
 }
 
 // By hand, so that a caller that drops one proves one call.
@@ -28,6 +31,7 @@ impl Drop for ControlState {
             executed: _,
             blocks: _,
             is_single: _,
+            notes: _,
         } = self;
     }
 }
@@ -43,7 +47,10 @@ impl ControlState {
     ghost use Rattle.sfc_action.specs.Private.Listing.{IsNew};
     ghost use Rattle.sfc_action.specs.Private.Calling.{AreCalled};
     ghost use Rattle.sfc_action.specs.Private.Keeping.{IsStateSized, IsFresh, IsActed, IsCopy, delay_of};
-    ghost use Rattle.sfc_action.specs.Private.Resting.{IsAtRest, rested};
+    ghost use Rattle.sfc_action.specs.Private.Resting.{IsAtRest, IsRested};
+    ghost use Rattle.sfc_action.specs.Private.Resetting.{IsReset};
+    ghost use Rattle.sfc_action.specs.Private.Noting.{AreSame, IsNoted, noted_row, turned_over};
+    ghost use Rattle.sfc_action.specs.declared.control_state.ControlState.{ControlState};
     ghost use Rattle.sfc_action.specs.Private.Rows.{state_in, state_row, nothing, state_row_after};
 
     /// Before the first scan of a life, with these on-delays. The one error is that memory was refused.
@@ -57,6 +64,7 @@ impl ControlState {
         requires fresh { All IsNew blocks.items }
         ensures { IfOk result (λ state. IsFresh actions blocks.items is_single state) }
     {
+        let notes = ControlNotes::new(alloc, actions, &blocks)?;
         let blocks = Delays::new(alloc, actions, blocks)?;
         Ok(ControlState {
             kept: Kept::new(alloc, actions)?,
@@ -64,6 +72,7 @@ impl ControlState {
             executed: Flags::new(alloc, actions)?,
             blocks,
             is_single,
+            notes,
         })
     }
 
@@ -95,19 +104,20 @@ impl ControlState {
         self.executed.put_word(number, words.executed);
     }
 
-    // What a scan makes of the 64 actions of this word.
+    // What a scan makes of the 64 actions of this word, in place of what is noted of them.
     #[inline(always)]
     fn act_word(&mut self, control_scan: &ControlScan, number: usize)
         requires sized { IsStateSized (length self.old.q) self.old }
         requires control_scan { IsControlScan (length self.old.q) control_scan.now }
         requires number { number < word_count self.old.q }
         ensures sized { IsStateSized (length self.old.q) self.new }
-        ensures blocks { self.new.blocks ≡ self.old.blocks }
-        ensures single { self.new.is_single ≡ self.old.is_single }
-        ensures put { ArePut number (state_row_after control_scan.now (state_row self.old)) (state_row self.old) (state_row self.new) }
+        ensures same { AreSame self.old self.new }
+        ensures put { ArePut number (state_row_after control_scan.now (state_row self.old)) (noted_row self.old) (noted_row self.new) }
     {
         let words = self.words(number).after(control_scan.words(number));
-        self.put(number, words);
+        self.notes.kept.put(number, words.kept);
+        self.notes.q.put_word(number, words.q);
+        self.notes.executed.put_word(number, words.executed);
     }
 
     // The same of the 64 actions of each word.
@@ -116,9 +126,8 @@ impl ControlState {
         requires sized { IsStateSized (length self.old.q) self.old }
         requires control_scan { IsControlScan (length self.old.q) control_scan.now }
         ensures sized { IsStateSized (length self.old.q) self.new }
-        ensures blocks { self.new.blocks ≡ self.old.blocks }
-        ensures single { self.new.is_single ≡ self.old.is_single }
-        ensures rows { (a : ℕ) → state_row self.new a ≡ state_row_after control_scan.now (state_row self.old) a }
+        ensures same { AreSame self.old self.new }
+        ensures rows { (a : ℕ) → noted_row self.new a ≡ state_row_after control_scan.now (state_row self.old) a }
         ensures ticks { Within (length self.old.q) ticks.old ticks.new }
     {
         for number in 0..self.q.words() {
@@ -127,14 +136,13 @@ impl ControlState {
         }
     }
 
-    // What a scan makes of all actions, where the on-delays are done.
+    // What a scan makes of all actions, where the on-delays are done, in place of what is noted of them.
     fn act_all(&mut self, control_scan: &ControlScan, ticks: &mut Ticks)
         requires sized { IsStateSized (length self.old.q) self.old }
         requires control_scan { IsControlScan (length self.old.q) control_scan.now }
         ensures sized { IsStateSized (length self.old.q) self.new }
-        ensures blocks { self.new.blocks ≡ self.old.blocks }
-        ensures single { self.new.is_single ≡ self.old.is_single }
-        ensures rows { (a : ℕ) → state_row self.new a ≡ state_row_after control_scan.now (state_row self.old) a }
+        ensures same { AreSame self.old self.new }
+        ensures rows { (a : ℕ) → noted_row self.new a ≡ state_row_after control_scan.now (state_row self.old) a }
         ensures ticks { Within (length self.old.q) ticks.old ticks.new }
     {
         // One word, as up to 64 actions have, without a loop.
@@ -144,6 +152,15 @@ impl ControlState {
             return;
         }
         self.act_each(control_scan, ticks);
+    }
+
+    // What is kept of the actions and what is noted of them change places.
+    fn turn_over(&mut self)
+        ensures { self.new ≡ turned_over self.old }
+    {
+        self.kept.swap(&mut self.notes.kept);
+        self.q.swap(&mut self.notes.q);
+        self.executed.swap(&mut self.notes.executed);
     }
 
     /// What a scan at t makes of all, where the control scan has read its input, and no on-delay has its input unless `is_called`.
@@ -163,10 +180,18 @@ impl ControlState {
         requires high { t ≤ℤ pos (2 ^ 62) }
         ensures control_scan { IsControlScan (length self.old.q) control_scan.new }
         ensures acted { IsActed control_scan.old.inputs control_scan.old.stores control_scan.old.presets.items t self.old self.new }
-        ensures ticks { Within (2 * length self.old.q + 2 * length self.old.blocks) ticks.old ticks.new }
+        ensures noted { IsNoted self.old self.new }
+        ensures ticks { Within (2 * length self.old.q + 4 * length self.old.blocks) ticks.old ticks.new }
     {
-        self.blocks.step(control_scan, is_called, t, ticks);
+        self.notes.has_acted = true;
+        self.notes.delays.has_stepped = false;
+        // Idle on-delays stay as they are without their input.
+        if is_called || !self.blocks.are_idle() {
+            self.blocks
+                .step(control_scan, &mut self.notes.delays, t, ticks);
+        }
         self.act_all(control_scan, ticks);
+        self.turn_over();
     }
 
     // Whether no action with an input P has Q: a pulse gives Q for one scan.
@@ -199,33 +224,28 @@ impl ControlState {
     /// What such a scan makes of all: the actions with Q are executed.
     pub fn rest(&mut self, ticks: &mut Ticks)
         requires sized { IsStateSized (length self.old.q) self.old }
-        ensures rested { self.new ≡ rested self.old }
+        ensures rested { IsRested self.old self.new }
+        ensures noted { IsNoted self.old self.new }
         ensures ticks { Within (length self.old.q) ticks.old ticks.new }
     {
+        self.notes.has_acted = false;
+        self.executed.swap(&mut self.notes.executed);
         self.executed.copy_from(&self.q, ticks);
     }
 
-    /// Takes over which actions the other executed, which has as many.
-    pub fn follow(&mut self, other: &ControlState, ticks: &mut Ticks)
+    /// Undoes the newest scan.
+    pub fn undo(&mut self, ticks: &mut Ticks)
         requires sized { IsStateSized (length self.old.q) self.old }
-        requires other { IsStateSized (length self.old.q) other.now }
-        ensures followed { self.new ≡ record self.old { executed = other.now.executed } }
-        ensures ticks { Within (length self.old.q) ticks.old ticks.new }
-    {
-        self.executed.copy_from(&other.executed, ticks);
-    }
-
-    // Takes over the flags of the 64 actions of this word.
-    fn copy_word(&mut self, other: &ControlState, number: usize)
-        requires sized { IsStateSized (length self.old.q) self.old }
-        requires other { IsStateSized (length self.old.q) other.now }
-        requires number { number < word_count self.old.q }
         ensures sized { IsStateSized (length self.old.q) self.new }
-        ensures blocks { self.new.blocks ≡ self.old.blocks }
-        ensures single { self.new.is_single ≡ self.old.is_single }
-        ensures put { ArePut number (state_row other.now) (state_row self.old) (state_row self.new) }
+        ensures undone { (before : ControlState) → IsNoted before self.old → IsCopy before self.new }
+        ensures ticks { Within (length self.old.blocks) ticks.old ticks.new }
     {
-        self.put(number, other.words(number));
+        if self.notes.has_acted {
+            self.turn_over();
+            self.blocks.undo(&mut self.notes.delays, ticks);
+        } else {
+            self.executed.swap(&mut self.notes.executed);
+        }
     }
 
     // Takes over the flags of the other.
@@ -238,16 +258,35 @@ impl ControlState {
         ensures rows { (a : ℕ) → state_row self.new a ≡ state_row other.now a }
         ensures ticks { Within (length self.old.q) ticks.old ticks.new }
     {
-        // One word, as up to 64 actions have, without a loop.
-        if self.q.words() == 1 {
-            ticks.tick();
-            self.copy_word(other, 0);
-            return;
-        }
         for number in 0..self.q.words() {
             ticks.tick();
-            self.copy_word(other, number);
+            self.put(number, other.words(number));
         }
+    }
+
+    // No action has anything that is kept.
+    fn clear_all(&mut self, ticks: &mut Ticks)
+        requires sized { IsStateSized (length self.old.q) self.old }
+        ensures sized { IsStateSized (length self.old.q) self.new }
+        ensures blocks { self.new.blocks ≡ self.old.blocks }
+        ensures single { self.new.is_single ≡ self.old.is_single }
+        ensures rows { (a : ℕ) → state_row self.new a ≡ nothing }
+        ensures ticks { Within (length self.old.q) ticks.old ticks.new }
+    {
+        for number in 0..self.q.words() {
+            ticks.tick();
+            self.put(number, StateWords::none());
+        }
+    }
+
+    /// A new life begins: all is as before its first scan.
+    pub fn reset(&mut self, ticks: &mut Ticks)
+        requires sized { IsStateSized (length self.old.q) self.old }
+        ensures reset { IsReset self.old self.new }
+        ensures ticks { Within (length self.old.q + length self.old.blocks) ticks.old ticks.new }
+    {
+        self.clear_all(ticks);
+        self.blocks.reset(ticks);
     }
 
     /// Takes over what the other keeps, which has as many actions and on-delays.

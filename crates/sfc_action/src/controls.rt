@@ -42,8 +42,7 @@ ghost use Rattle.sfc_evolve.specs.Evolution as evolution;
 ghost use Rattle.sfc_evolve.specs.Agreement.{StepsAgree, step_total};
 ghost use Rattle.sfc_action.specs.ActionControl.{Scan, q, executed, first_fault};
 ghost use Rattle.sfc_action.specs.Work.{step_work, copy_work};
-ghost use Rattle.sfc_action.specs.declared.control_state.ControlState.{ControlState};
-ghost use Rattle.sfc_action.specs.Agreement.{IsFor, AreInputsOf, ControlsAgree, IsAlike, action_total, scan_input};
+ghost use Rattle.sfc_action.specs.Agreement.{IsFor, AreInputsOf, ControlsAgree, ControlsNoted, action_total, scan_input};
 
 use crate::associations::Associations;
 use crate::fault::ActionFault;
@@ -106,6 +105,7 @@ impl Controls {
             StepsAgree tables.now steps.now scans → ControlsAgree tables.now self.old h →
             ControlsAgree tables.now self.new (scan_input tables.now scans associations.entry.times.now t ∷ h)) }
         ensures err { OnErr result (self.new ≡ self.old) }
+        ensures noted { OnOk result ((h : List Scan) → ControlsAgree tables.now self.old h → ControlsNoted tables.now self.new h) }
         ensures ticks { Within (step_work tables.now) ticks.old ticks.new }
     {
         let _steps = tables.steps();
@@ -140,7 +140,8 @@ impl Controls {
         ensures faultless { result ≡ true → (tables : Tabled) (scan last : Scan) (h : List Scan) → scan.active ≡ last.active →
             ControlsAgree tables self.old (last ∷ h) → first_fault tables (scan ∷ last ∷ h) ≡ None }
         ensures unchanged { result ≡ false → self.new ≡ self.old }
-        ensures alike { (other : ControlState) → IsAlike other self.old → IsAlike other self.new }
+        ensures noted { result ≡ true → (tables : Tabled) (h : List Scan) → ControlsAgree tables self.old h →
+            ControlsNoted tables self.new h }
         ensures ticks { Within (2 * action_total self.old) ticks.old ticks.new }
         ensures ticks_of_no { result ≡ false → Within (action_total self.old) ticks.old ticks.new }
     {
@@ -186,6 +187,16 @@ impl Controls {
         &self.state.executed
     }
 
+    /// A new life begins: no flip-flop is set, no on-delay runs, and no action has Q (2.6.4.5). It takes no memory.
+    pub fn reset(&mut self, tables: &Tables, ticks: &mut Ticks)
+        requires { IsFor tables.now self.old }
+        ensures sizes { IsFor tables.now self.new }
+        ensures agrees { ControlsAgree tables.now self.new [] }
+        ensures ticks { Within (copy_work tables.now) ticks.old ticks.new }
+    {
+        self.state.reset(ticks);
+    }
+
     /// Takes over what the other keeps, which was made from the same tables. It takes no memory.
     pub fn copy_from(&mut self, tables: &Tables, other: &Controls, ticks: &mut Ticks)
         requires own { IsFor tables.now self.old }
@@ -194,19 +205,20 @@ impl Controls {
         ensures sizes { (tables : Tabled) → IsFor tables other.now → IsFor tables self.new }
         ensures agrees { (tables : Tabled) (h : List Scan) → ControlsAgree tables other.now h →
             ControlsAgree tables self.new h }
-        ensures alike { IsAlike self.new other.now }
         ensures ticks { Within (copy_work tables.now) ticks.old ticks.new }
     {
         self.state.copy_from(&other.state, ticks);
     }
 
-    /// Takes over what the other keeps, where the two are alike, as after a scan that `repeat` did. It takes no memory.
-    pub fn follow(&mut self, other: &Controls, ticks: &mut Ticks)
-        requires actions { action_total other.now ≡ action_total self.old }
-        requires alike { IsAlike self.old other.now }
-        ensures same { self.new ≡ other.now }
-        ensures ticks { Within (action_total self.old) ticks.old ticks.new }
+    /// Undoes the latest scan, which `step` or `repeat` did: all answers are those before it. It takes no memory.
+    #[cold]
+    #[inline(never)]
+    pub fn undo(&mut self, tables: &Tables, ticks: &mut Ticks)
+        requires { IsFor tables.now self.old }
+        ensures sizes { IsFor tables.now self.new }
+        ensures agrees { (h : List Scan) → ControlsNoted tables.now self.old h → ControlsAgree tables.now self.new h }
+        ensures ticks { Within (length tables.now.associations) ticks.old ticks.new }
     {
-        self.state.follow(&other.state, ticks);
+        self.state.undo(ticks);
     }
 }

@@ -39,15 +39,16 @@ impl Model for Delays {
     ghost invariant = { λ delays. AreKept delays.blocks.items delays.live delays.places delays.is_idle };
 }
 
-use crate::blocks::{DelayCall, step_live};
+use crate::blocks::{DelayCall, forget_all, step_live};
 use crate::control_scan::ControlScan;
+use crate::notes::DelayNotes;
 use crate::places::list_places;
-use crate::waking::{copy_live, wake};
+use crate::waking::{copy_flagged, wake};
 use sfc_base::ticks::Ticks;
 use std::alloc::{AllocError, Global};
 
 impl Delays {
-    ghost use Rattle.std.specs.Prelude.{◌≡◌, ◌≤ℤ◌, ◌^◌, ◌+◌, ◌*◌, ℕ, pos, true, false, length, map, All, IfOk};
+    ghost use Rattle.std.specs.Prelude.{◌≡◌, ◌≤ℤ◌, ◌^◌, ◌+◌, ◌*◌, ℕ, pos, true, length, map, List, All, IfOk};
     ghost use Rattle.sfc_base.specs.Ticks.{Within};
     ghost use Rattle.sfc_flags.specs.Flags.{flag};
     ghost use Rattle.sfc_action.specs.Private.ControlScans.{IsControlScan};
@@ -57,6 +58,8 @@ impl Delays {
     ghost use Rattle.sfc_action.specs.Private.Listing.{IsNew};
     ghost use Rattle.sfc_action.specs.Private.Calling.{AreCalled};
     ghost use Rattle.sfc_action.specs.Private.Live.{IsIdle};
+    ghost use Rattle.sfc_action.specs.Private.Noting.{AreNotesFor, AreNoted};
+    ghost use Rattle.sfc_action.specs.declared.blocks.Block.{Block};
 
     /// These on-delays, which are of so many actions and have seen no call. The one error is that memory was refused.
     pub fn new(alloc: Global, actions: usize, blocks: Vec<Block>) -> Result<Delays, AllocError>
@@ -74,22 +77,36 @@ impl Delays {
         })
     }
 
-    // One scan of the on-delays, some of which may run, have elapsed or have their input.
-    fn step_awake(&mut self, control_scan: &mut ControlScan, t: i64, ticks: &mut Ticks)
+    /// One scan of all on-delays at t, with the inputs, the flip-flops and the times of the control scan, which gets the sets of those
+    /// that have elapsed. What those were that it handles is noted.
+    pub fn step(
+        &mut self,
+        control_scan: &mut ControlScan,
+        notes: &mut DelayNotes,
+        t: i64,
+        ticks: &mut Ticks,
+    )
         requires sized { IsControlScan (length control_scan.old.presets.items) control_scan.old }
+        requires notes { AreNotesFor (length self.old) notes.old }
         requires actions { AreOf (length control_scan.old.presets.items) self.old }
         requires called { AreCalled control_scan.old.inputs control_scan.old.stores control_scan.old.called }
         requires elapsed { control_scan.old.elapsed ≡ none (length control_scan.old.presets.items) }
         requires low { pos 0 ≤ℤ t }
         requires high { t ≤ℤ pos (2 ^ 62) }
         ensures sized { IsControlScan (length control_scan.old.presets.items) control_scan.new }
+        ensures notes { AreNotesFor (length self.old) notes.new }
         ensures len { length self.new ≡ length self.old }
         ensures stepped { AreStepped control_scan.old.inputs control_scan.old.stores control_scan.old.presets.items t self.old self.new }
+        ensures noted { AreNoted notes.new self.old self.new }
         ensures control_scan { control_scan.new
             ≡ record control_scan.old { elapsed = gathered self.new (none (length control_scan.old.presets.items)) } }
-        ensures ticks { Within (length control_scan.old.presets.items + 2 * length self.old) ticks.old ticks.new }
+        ensures ticks { Within (length control_scan.old.presets.items + 4 * length self.old) ticks.old ticks.new }
     {
         wake(&mut self.live, &self.places, &control_scan.called, ticks);
+        notes.has_stepped = true;
+        notes.is_idle = self.is_idle;
+        notes.handled.copy_from(&self.live, ticks);
+        copy_flagged(&mut notes.blocks, &self.blocks, &self.live, ticks);
         let call = DelayCall {
             inputs: &control_scan.inputs,
             stores: &control_scan.stores,
@@ -105,34 +122,20 @@ impl Delays {
         );
     }
 
-    /// One scan of all on-delays at t, with the inputs, the flip-flops and the times of the control scan, which gets the sets of those
-    /// that have elapsed. None has its input unless `is_called`.
-    #[inline(always)]
-    pub fn step(
-        &mut self,
-        control_scan: &mut ControlScan,
-        is_called: bool,
-        t: i64,
-        ticks: &mut Ticks,
-    )
-        requires sized { IsControlScan (length control_scan.old.presets.items) control_scan.old }
-        requires actions { AreOf (length control_scan.old.presets.items) self.old }
-        requires called { AreCalled control_scan.old.inputs control_scan.old.stores control_scan.old.called }
-        requires uncalled { is_called ≡ false → (a : ℕ) → flag control_scan.old.called a ≡ false }
-        requires elapsed { control_scan.old.elapsed ≡ none (length control_scan.old.presets.items) }
-        requires low { pos 0 ≤ℤ t }
-        requires high { t ≤ℤ pos (2 ^ 62) }
-        ensures sized { IsControlScan (length control_scan.old.presets.items) control_scan.new }
-        ensures len { length self.new ≡ length self.old }
-        ensures stepped { AreStepped control_scan.old.inputs control_scan.old.stores control_scan.old.presets.items t self.old self.new }
-        ensures control_scan { control_scan.new
-            ≡ record control_scan.old { elapsed = gathered self.new (none (length control_scan.old.presets.items)) } }
-        ensures ticks { Within (length control_scan.old.presets.items + 2 * length self.old) ticks.old ticks.new }
+    /// Undoes the newest scan, which noted this.
+    pub fn undo(&mut self, notes: &mut DelayNotes, ticks: &mut Ticks)
+        requires notes { AreNotesFor (length self.old) notes.old }
+        ensures notes { AreNotesFor (length self.old) notes.new }
+        ensures undone { (before : List Block) → AreNoted notes.old before self.old → self.new ≡ before }
+        ensures ticks { Within (length self.old) ticks.old ticks.new }
     {
-        // Idle on-delays stay as they are without their input.
-        if is_called || !self.is_idle {
-            self.step_awake(control_scan, t, ticks);
+        if !notes.has_stepped {
+            return;
         }
+        copy_flagged(&mut self.blocks, &notes.blocks, &notes.handled, ticks);
+        // Those that were handled are live: one that isn't idle was.
+        self.live.swap(&mut notes.handled);
+        self.is_idle = notes.is_idle;
     }
 
     /// Whether none runs or has elapsed: where it answers no, that may be so all the same.
@@ -142,18 +145,30 @@ impl Delays {
         self.is_idle
     }
 
+    /// All are as if they had seen no call.
+    pub fn reset(&mut self, ticks: &mut Ticks)
+        ensures same { map delay_of self.new ≡ map delay_of self.old }
+        ensures fresh { All IsNew self.new }
+        ensures ticks { Within (length self.old) ticks.old ticks.new }
+    {
+        forget_all(&mut self.blocks, ticks);
+        // Counted with its on-delay.
+        let mut counted = Ticks::new();
+        self.live.clear_all(&mut counted);
+        self.is_idle = true;
+    }
+
     /// Takes over what the other has seen, which has the same on-delays.
     pub fn copy_from(&mut self, other: &Delays, ticks: &mut Ticks)
         requires { map delay_of other.now ≡ map delay_of self.old }
         ensures copy { self.new ≡ other.now }
         ensures ticks { Within (length self.old) ticks.old ticks.new }
     {
-        // Idle on-delays of the same action and qualifier are equal.
-        if self.is_idle && other.is_idle {
-            return;
-        }
         self.is_idle = other.is_idle;
+        self.blocks.copy_from_slice(&other.blocks);
         ticks.tick_all(self.blocks.len());
-        copy_live(&mut self.blocks, &mut self.live, &other.blocks, &other.live);
+        // Counted with its on-delay.
+        let mut counted = Ticks::new();
+        self.live.copy_from(&other.live, &mut counted);
     }
 }

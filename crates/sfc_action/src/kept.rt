@@ -65,4 +65,13 @@ impl Kept {
     {
         self.words[number] = words;
     }
+
+    /// The two change what is kept.
+    pub fn swap(&mut self, other: &mut Kept)
+        requires { length other.old.pulse ≡ length self.old.pulse }
+        ensures own { self.new ≡ other.old }
+        ensures others { other.new ≡ self.old }
+    {
+        std::mem::swap(&mut self.words, &mut other.words);
+    }
 }

@@ -14,6 +14,7 @@
 //! - `kept_words`: the same of 64 actions.
 //! - `laws`: what holds of the definitions themselves.
 //! - `listing`: which on-delays there are.
+//! - `notes`: what the newest scan changed.
 //! - `places`: where the on-delays of each action stand.
 //! - `plain_words`: of 64 actions the inputs without a time.
 //! - `marking`: what the active steps give as inputs.
@@ -45,6 +46,7 @@ mod kept_words;
 pub mod laws;
 mod listing;
 mod marking;
+mod notes;
 mod places;
 mod plain_words;
 mod scan_words;

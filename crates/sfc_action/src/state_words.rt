@@ -2,7 +2,7 @@
 
 ghost use Rattle.std.specs.Prelude.{◌≡◌, ℕ};
 ghost use Rattle.sfc_flags.specs.Words.{has};
-ghost use Rattle.sfc_action.specs.Private.Rows.{timed_in, stores_in, inputs_in, state_in, q_of, executed_of, state_after};
+ghost use Rattle.sfc_action.specs.Private.Rows.{timed_in, stores_in, inputs_in, state_in, nothing, q_of, executed_of, state_after};
 
 use crate::input_words::InputWords;
 use crate::kept_words::KeptWords;
@@ -55,6 +55,17 @@ fn executed_after(was: StateWords, inputs: InputWords, q: Word) -> Word
 }
 
 impl StateWords {
+    /// No action has any of it.
+    pub fn none() -> StateWords
+        ensures { (a : ℕ) → state_in result a ≡ nothing }
+    {
+        StateWords {
+            kept: KeptWords::none(),
+            q: Word::none(),
+            executed: Word::none(),
+        }
+    }
+
     /// What a scan makes of them.
     pub fn after(self, scan: ScanWords) -> StateWords
         ensures { (a : ℕ) → state_in result a

@@ -1,17 +1,15 @@
 //! Which on-delays a scan handles.
 
-ghost use Rattle.std.specs.Prelude.{◌≡◌, ◌==◌, ◌<◌, ◌||◌, ℕ, true, false, length, slice_index_or};
+ghost use Rattle.std.specs.Prelude.{◌≡◌, ◌==◌, ◌<◌, ℕ, true, false, length, slice_index_or};
 ghost use Rattle.std.specs.List.{list_any};
 ghost use Rattle.sfc_base.specs.Ticks.{Within};
 ghost use Rattle.sfc_flags.specs.Flags.{flag};
-ghost use Rattle.sfc_flags.specs.Words.{has, word_of, word_count, ArePut};
 ghost use Rattle.sfc_action.specs.declared.blocks.Block.{Block};
 ghost use Rattle.sfc_action.specs.Private.Live.{has_place};
 
 use crate::blocks::Block;
 use sfc_base::ticks::Ticks;
 use sfc_flags::flags::Flags;
-use sfc_flags::word::Word;
 use sfc_tables::grouped_places::GroupedPlaces;
 
 // These places get their flags.
@@ -41,80 +39,18 @@ pub fn wake(live: &mut Flags, places: &GroupedPlaces, called: &Flags, ticks: &mu
     }
 }
 
-// Takes over the on-delays of this word that have a flag.
-fn copy_word(blocks: &mut [Block], from: &[Block], word: usize, live: Word)
+/// Takes over those of these on-delays that have a flag.
+pub fn copy_flagged(blocks: &mut [Block], from: &[Block], flags: &Flags, ticks: &mut Ticks)
     requires len { length from.now ≡ length blocks.old }
-    requires places { (k : ℕ) → word_of k ≡ word → has live k ≡ true → k < length blocks.old }
+    requires flags_len { length flags.now ≡ length blocks.old }
     ensures len { length blocks.new ≡ length blocks.old }
-    ensures kept { (k : ℕ) (d : Block) → slice_index_or blocks.old k d ≡ slice_index_or from.now k d →
-        slice_index_or blocks.new k d ≡ slice_index_or from.now k d }
-    ensures taken { (k : ℕ) (d : Block) → word_of k ≡ word → has live k ≡ true →
-        slice_index_or blocks.new k d ≡ slice_index_or from.now k d }
+    ensures taken { (k : ℕ) (d : Block) → flag flags.now k ≡ true → slice_index_or blocks.new k d ≡ slice_index_or from.now k d }
+    ensures kept { (k : ℕ) (d : Block) → flag flags.now k ≡ false → slice_index_or blocks.new k d ≡ slice_index_or blocks.old k d }
+    ensures ticks { Within (length blocks.old) ticks.old ticks.new }
 {
-    let mut left = live;
-    'live: while let Some((place, rest)) = left.split_first() {
-        let k = word * 64 + place;
-        blocks[k] = from[k];
-        left = rest;
+    let mut at = 0;
+    'flagged: while let Some(place) = flags.next_set(at, ticks) {
+        blocks[place] = from[place];
+        at = place + 1;
     }
-}
-
-// Takes over the on-delays of this word of the other and which of them are live; those that aren't live in either stay as they are.
-fn copy_live_word(
-    blocks: &mut [Block],
-    live: &mut Flags,
-    from: &[Block],
-    from_live: &Flags,
-    number: usize,
-)
-    requires len { length from.now ≡ length blocks.old }
-    requires live_len { length live.old ≡ length blocks.old }
-    requires from_live_len { length from_live.now ≡ length blocks.old }
-    requires number { number < word_count live.old }
-    ensures len { length blocks.new ≡ length blocks.old }
-    ensures live_len { length live.new ≡ length live.old }
-    ensures kept { (k : ℕ) (d : Block) → slice_index_or blocks.old k d ≡ slice_index_or from.now k d →
-        slice_index_or blocks.new k d ≡ slice_index_or from.now k d }
-    ensures taken { (k : ℕ) (d : Block) → word_of k ≡ number → (flag live.old k || flag from_live.now k) ≡ true →
-        slice_index_or blocks.new k d ≡ slice_index_or from.now k d }
-    ensures put { ArePut number (flag from_live.now) (flag live.old) (flag live.new) }
-{
-    let own = live.word(number);
-    let word = from_live.word(number);
-    copy_word(blocks, from, number, own.or(word));
-    live.put_word(number, word);
-}
-
-// As `copy_live`, word by word.
-#[inline(never)]
-fn copy_live_words(blocks: &mut [Block], live: &mut Flags, from: &[Block], from_live: &Flags)
-    requires len { length from.now ≡ length blocks.old }
-    requires live_len { length live.old ≡ length blocks.old }
-    requires from_live_len { length from_live.now ≡ length blocks.old }
-    requires same { (k : ℕ) (d : Block) → k < length blocks.old → flag live.old k ≡ false → flag from_live.now k ≡ false →
-        slice_index_or blocks.old k d ≡ slice_index_or from.now k d }
-    ensures blocks { blocks.new ≡ from.now }
-    ensures live { live.new ≡ from_live.now }
-{
-    for number in 0..live.words() {
-        copy_live_word(blocks, live, from, from_live, number);
-    }
-}
-
-/// Takes over the on-delays of the other and which of them are live; those that aren't live in either are equal. The caller counts it.
-pub fn copy_live(blocks: &mut [Block], live: &mut Flags, from: &[Block], from_live: &Flags)
-    requires len { length from.now ≡ length blocks.old }
-    requires live_len { length live.old ≡ length blocks.old }
-    requires from_live_len { length from_live.now ≡ length blocks.old }
-    requires same { (k : ℕ) (d : Block) → k < length blocks.old → flag live.old k ≡ false → flag from_live.now k ≡ false →
-        slice_index_or blocks.old k d ≡ slice_index_or from.now k d }
-    ensures blocks { blocks.new ≡ from.now }
-    ensures live { live.new ≡ from_live.now }
-{
-    // One word, as up to 64 on-delays have, without a loop.
-    if live.words() == 1 {
-        copy_live_word(blocks, live, from, from_live, 0);
-        return;
-    }
-    copy_live_words(blocks, live, from, from_live);
 }

@@ -7,6 +7,7 @@ use Rattle.sfc_evolve.specs.Evolution.{Scan}
 use Rattle.sfc_flags.specs.Flags.{flag}
 use Rattle.sfc_evolve.specs.Private.Keeping.{number, FieldsAgree}
 use Rattle.sfc_evolve.specs.Private.Proposing.{AreProposed}
+use Rattle.sfc_evolve.specs.Private.Noting.{MovedAgree, StayedAgree}
 
 -- how many steps and transitions it is for
 abbrev pub step_total : Steps → ℕ
@@ -46,28 +47,12 @@ StepsAgree tables steps scans = Keeps tables steps scans
 unfoldable pub Enables : Tabled → Steps → ℕ → Type 0
 Enables tables steps transition = is_enabled (flag steps.active) (preceding_of tables.sides transition) ≡ true
 
--- They keep the same, but for the transitions that the latest scan cleared and the steps that it activated.
-pub record Likeness (a b : Steps) : Type 0 where
-  pub begun : a.begun ≡ b.begun
-  pub active : a.active ≡ b.active
-  pub since : a.since.items ≡ b.since.items
-  pub held_times : a.held_times.items ≡ b.held_times.items
-  pub candidates : a.candidates ≡ b.candidates
-  pub transitions : transition_total a ≡ transition_total b
+-- it is as large as the tables, and what it was before its latest scan is what these scans give
+pub record Notes (tables : Tabled) (steps : Steps) (scans : List Scan) : Type 0 where
+  pub size : IsFor tables steps
+  pub moved : steps.notes.has_moved ≡ true → MovedAgree tables steps scans
+  pub stayed : steps.notes.has_moved ≡ false → StayedAgree tables steps scans
 
-unfoldable pub IsLike : Steps → Steps → Type 0
-IsLike a b = Likeness a b
-
--- They are of the same size, and of each step that isn't active in a and wasn't activated in b by the latest scan they keep the same times;
--- it isn't active in b either.
-pub record Closeness (a b : Steps) : Type 0 where
-  pub steps : step_total a ≡ step_total b
-  pub transitions : transition_total a ≡ transition_total b
-  pub active : (s : ℕ) → s < step_total a → flag a.active s ≡ false → flag b.on s ≡ false → flag b.active s ≡ false
-  pub since : (s : ℕ) → s < step_total a → flag a.active s ≡ false → flag b.on s ≡ false
-      → number a.since.items s ≡ number b.since.items s
-  pub held_times : (s : ℕ) → s < step_total a → flag a.active s ≡ false → flag b.on s ≡ false
-      → number a.held_times.items s ≡ number b.held_times.items s
-
-unfoldable pub IsClose : Steps → Steps → Type 0
-IsClose a b = Closeness a b
+-- before its latest scan, all answers were those after these scans, the newest first; so they are where it is undone
+unfoldable pub StepsNoted : Tabled → Steps → List Scan → Type 0
+StepsNoted tables steps scans = Notes tables steps scans

@@ -1,3 +1,4 @@
 -- What private clauses cite.
 pub mod Keeping
 pub mod Proposing
+pub mod Noting

@@ -7,4 +7,4 @@ links tables = sum_by (λ (sides : Sides). length sides.preceding + length sides
 
 -- of a scan
 abbrev pub advance_work : Tabled → ℕ
-advance_work tables = 4 * length tables.initial + 5 * length tables.sides + 5 * links tables
+advance_work tables = 5 * length tables.initial + 5 * length tables.sides + 5 * links tables

@@ -7,6 +7,7 @@
 //! - `marks`: tests and writes at listed steps.
 //! - `proposing`: which transitions may be enabled.
 //! - `new_sets`: new lists and sets, with a time or a flag for each step, transition or action.
+//! - `notes`: what the newest scan changed.
 //! - `starting`: initial steps in the first scan.
 //! - `steps`: the steps of a program instance.
 //! - `times`: when steps were activated, and the times that they keep.
@@ -18,6 +19,7 @@ pub mod laws;
 mod marking;
 mod marks;
 pub mod new_sets;
+mod notes;
 mod proposing;
 mod starting;
 pub mod steps;

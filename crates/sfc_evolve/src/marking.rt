@@ -7,9 +7,9 @@ ghost use Rattle.sfc_tables.specs.Tables.{AreTables};
 ghost use Rattle.sfc_evolve.specs.Marks.{marked};
 ghost use Rattle.sfc_evolve.specs.Clearing.{preceding_of, following_of};
 ghost use Rattle.sfc_base.specs.Instants.{AreInstants};
-ghost use Rattle.sfc_evolve.specs.Private.Keeping.{unmarked, changed_by, left_by, moving_work};
+ghost use Rattle.sfc_evolve.specs.Private.Keeping.{changed_by, left_by, moving_work};
 
-use crate::marks::{mark, unmark};
+use crate::marks::mark;
 use crate::times::leave;
 use sfc_base::ids::TransitionId;
 use sfc_base::ticks::Ticks;
@@ -24,11 +24,9 @@ pub struct Cleared<'a> {
     pub t: i64,
 }
 
-/// The steps before the cleared transitions are left: they keep their times, as they are at the scan's instant, and their
-/// flags are cleared. Those after them are marked.
+/// The steps before the cleared transitions keep their times, as they are at the scan's instant, and those after them are marked.
 pub fn move_on(
     scan: Cleared<'_>,
-    active: &mut Flags,
     held_times: &mut [i64],
     since: &[i64],
     on: &mut Flags,
@@ -36,15 +34,12 @@ pub fn move_on(
 )
     requires tables { AreTables scan.tables.now }
     requires cleared_len { length scan.flags.now ≡ length scan.tables.now.sides }
-    requires active_len { length active.old ≡ length scan.tables.now.initial }
     requires since_len { length since.now ≡ length scan.tables.now.initial }
     requires held_times_len { length held_times.old ≡ length since.now }
     requires on_len { length on.old ≡ length scan.tables.now.initial }
     requires instants { AreInstants since.now }
     requires low { pos 0 ≤ℤ scan.t }
     requires high { scan.t ≤ℤ pos (2 ^ 62) }
-    ensures active { active.new ≡ changed_by unmarked (preceding_of scan.entry.tables.now.sides) (places_from scan.entry.flags.now 0) active.old }
-    ensures active_len { length active.new ≡ length active.old }
     ensures held_times { held_times.new
         ≡ left_by scan.entry.t since.now (preceding_of scan.entry.tables.now.sides) (places_from scan.entry.flags.now 0) held_times.old }
     ensures on { on.new ≡ changed_by marked (following_of scan.entry.tables.now.sides) (places_from scan.entry.flags.now 0) on.old }
@@ -54,10 +49,9 @@ pub fn move_on(
     let Cleared { tables, flags, t } = scan;
     let mut at = 0;
     'cleared: while let Some(tr) = flags.next_set(at, ticks) {
-        let preceding = tables.preceding(TransitionId(tr as u16));
-        leave(held_times, since, preceding, t, ticks);
-        unmark(active, preceding, ticks);
-        mark(on, tables.following(TransitionId(tr as u16)), ticks);
+        let transition = TransitionId(tr as u16);
+        leave(held_times, since, tables.preceding(transition), t, ticks);
+        mark(on, tables.following(transition), ticks);
         at = tr + 1;
     }
 }

@@ -1,7 +1,7 @@
 //! Tests and writes at listed steps.
 
 ghost use Rattle.std.specs.Prelude.{◌≡◌, [], true, length};
-ghost use Rattle.std.specs.List.{list_all, list_any};
+ghost use Rattle.std.specs.List.{list_all};
 ghost use Rattle.sfc_base.specs.Ticks.{Within};
 ghost use Rattle.sfc_flags.specs.Flags.{flag, places_from};
 ghost use Rattle.sfc_evolve.specs.Marks.{marked};
@@ -24,21 +24,6 @@ pub fn all_set(flags: &Flags, steps: &[StepId], ticks: &mut Ticks) -> bool
         }
     }
     true
-}
-
-/// Whether one of these steps has its flag.
-pub fn some_set(flags: &Flags, steps: &[StepId], ticks: &mut Ticks) -> bool
-    requires { AllBelow (length flags.now) steps.now }
-    ensures value { result ≡ list_any (λ step. flag flags.now step.0) steps.now }
-    ensures ticks { Within (length steps.now) ticks.old ticks.new }
-{
-    for step in steps {
-        ticks.tick();
-        if flags.get(step.0 as usize) {
-            return true;
-        }
-    }
-    false
 }
 
 /// Whether no flag is set.

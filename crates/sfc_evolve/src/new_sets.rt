@@ -24,14 +24,3 @@ pub fn two_sets(alloc: Global, count: usize) -> Result<(Flags, Flags), AllocErro
     let second = Flags::new(alloc, count)?;
     Ok((first, second))
 }
-
-/// Three tables with no flag set. The one error is that memory was refused.
-pub fn three_sets(alloc: Global, count: usize) -> Result<(Flags, Flags, Flags), AllocError>
-    ensures first { IfOk result (λ sets. sets.0 ≡ replicate count false) }
-    ensures second { IfOk result (λ sets. sets.1 ≡ replicate count false) }
-    ensures third { IfOk result (λ sets. sets.2 ≡ replicate count false) }
-{
-    let (first, second) = two_sets(alloc, count)?;
-    let third = Flags::new(alloc, count)?;
-    Ok((first, second, third))
-}

@@ -3,14 +3,15 @@
 ghost use Rattle.std.specs.Prelude.{◌≡◌, length};
 ghost use Rattle.sfc_base.specs.Instants.{AreInstants};
 
-use crate::clearing::clear_in_order;
-use crate::copying::{KeptTimes, copy_flags, copy_moved, copy_times};
+use crate::clearing::{Candidates, clear_in_order};
+use crate::copying::{copy_flags, copy_times};
 use crate::marking::{Cleared, move_on};
 use crate::marks::{all_set, is_blank, mark, unmark};
-use crate::new_sets::{three_sets, two_lists, two_sets};
+use crate::new_sets::{two_lists, two_sets};
+use crate::notes::Notes;
 use crate::proposing::propose;
 use crate::starting::start;
-use crate::times::{Activated, begin, begin_steps, leave};
+use crate::times::{Activated, begin, leave, take_back};
 use sfc_base::ids::TransitionId;
 use sfc_base::instants::time_since;
 use sfc_base::references::StepId;
@@ -21,7 +22,7 @@ use std::alloc::{AllocError, Global};
 
 /// Of each step whether it is active, when it was last activated, what time it kept when it was left, and whether the
 /// latest scan activated it; of each transition whether the latest scan cleared it, and by place in rank order whether
-/// it may be enabled. The rest is what a scan works on.
+/// it may be enabled. The rest is what a scan works on, and what the latest one changed, so that it can be undone.
 pub struct Steps {
     begun: bool,
     active: Flags,
@@ -29,14 +30,18 @@ pub struct Steps {
     held_times: Vec<i64>,
     cleared: Flags,
     candidates: Flags,
-    used: Flags,
     on: Flags,
+    notes: Notes,
     ghost since_len: { length since.items ≡ length active },
     ghost held_times_len: { length held_times.items ≡ length active },
     ghost candidates_len: { length candidates ≡ length cleared },
-    ghost used_len: { length used ≡ length active },
     ghost on_len: { length on ≡ length active },
+    ghost notes_active_len: { length notes.active ≡ length active },
+    ghost notes_since_len: { length notes.since.items ≡ length active },
+    ghost notes_cleared_len: { length notes.cleared ≡ length cleared },
+    ghost notes_on_len: { length notes.on ≡ length active },
     ghost instants: { AreInstants since.items },
+    ghost notes_instants: { AreInstants notes.since.items },
 }
 
 // By hand, so that a caller that drops one proves one call.
@@ -49,18 +54,18 @@ impl Drop for Steps {
             held_times: _,
             cleared: _,
             candidates: _,
-            used: _,
             on: _,
+            notes: _,
         } = self;
     }
 }
 
 #[tactic(auto, unfolding(crate::specs::Agreement::StepsAgree, crate::specs::Agreement::since_of, crate::specs::Agreement::held_times_of))]
 impl Steps {
-    ghost use Rattle.std.specs.Prelude.{◌≡◌, ◌<◌, ◌≤ℤ◌, ◌^◌, ◌+◌, ◌*◌, ◌∷◌, [], List, Bool, ℕ, ℤ, pos, not, true, false, length, IfOk};
+    ghost use Rattle.std.specs.Prelude.{◌≡◌, ◌<◌, ◌≤ℤ◌, ◌^◌, ◌+◌, ◌*◌, ◌∷◌, [], List, Bool, ℕ, ℤ, pos, not, true, false, length, replicate, IfOk};
     ghost use Rattle.sfc_base.specs.Instants.{AreInstants};
     ghost use Rattle.sfc_base.specs.Ticks.{Within};
-    ghost use Rattle.sfc_flags.specs.Flags.{flag};
+    ghost use Rattle.sfc_flags.specs.Flags.{flag, places_from};
     ghost use Rattle.sfc_tables.specs.Tables.{Tabled, AreTables};
     ghost use Rattle.sfc_evolve.specs.Lookback.{is_empty};
     ghost use Rattle.sfc_evolve.specs.Clearing.{is_enabled};
@@ -70,9 +75,9 @@ impl Steps {
     ghost use Rattle.sfc_evolve.specs.Clearing.{of_rank};
     ghost use Rattle.sfc_evolve.specs.Work.{advance_work};
     ghost use Rattle.sfc_evolve.specs.Marks.{marked};
-    ghost use Rattle.sfc_evolve.specs.Private.Keeping.{AllBelow, unmarked, left_at, put_at};
-    ghost use Rattle.sfc_evolve.specs.declared.steps.Steps.{Steps};
-    ghost use Rattle.sfc_evolve.specs.Agreement.{IsFor, StepsAgree, step_total, transition_total, since_of, held_times_of, shown_time, Enables, IsLike, IsClose};
+    ghost use Rattle.sfc_evolve.specs.Private.Noting.{AreNoted, turned_over, with_active};
+    ghost use Rattle.sfc_evolve.specs.Private.Keeping.{AllBelow, unmarked, left_at, begun_at, put_at};
+    ghost use Rattle.sfc_evolve.specs.Agreement.{IsFor, StepsAgree, step_total, transition_total, since_of, held_times_of, shown_time, Enables, StepsNoted};
 
     /// Before the first scan of a life. The one error is that memory was refused.
     pub fn new(alloc: Global, tables: &Tables) -> Result<Self, AllocError>
@@ -83,7 +88,7 @@ impl Steps {
         let m = tables.transitions();
         let (since, held_times) = two_lists(alloc, n)?;
         let (cleared, candidates) = two_sets(alloc, m)?;
-        let (active, used, on) = three_sets(alloc, n)?;
+        let (active, on) = two_sets(alloc, n)?;
         Ok(Steps {
             begun: false,
             active,
@@ -91,8 +96,8 @@ impl Steps {
             held_times,
             cleared,
             candidates,
-            used,
             on,
+            notes: Notes::new(alloc, n, m)?,
         })
     }
 
@@ -103,6 +108,30 @@ impl Steps {
             result ≡ is_active tables (rows_of tables scans) step.0 }
     {
         self.active.get(step.0 as usize)
+    }
+
+    // A scan begins: what the one before cleared and activated is noted, and nothing is cleared or activated yet.
+    fn turn_over(&mut self, ticks: &mut Ticks)
+        ensures cleared { self.new.cleared ≡ replicate (transition_total self.old) false }
+        ensures on { self.new.on ≡ replicate (step_total self.old) false }
+        ensures rest { self.new ≡ record self.old { cleared = self.new.cleared; on = self.new.on; notes = turned_over self.old } }
+        ensures ticks { Within (step_total self.old + transition_total self.old) ticks.old ticks.new }
+    {
+        self.cleared.swap(&mut self.notes.cleared);
+        self.on.swap(&mut self.notes.on);
+        self.notes.has_moved = false;
+        self.cleared.clear_all(ticks);
+        self.on.clear_all(ticks);
+    }
+
+    // Steps are about to move: which ones are active is noted, and whether a life has begun.
+    fn note_active(&mut self, ticks: &mut Ticks)
+        ensures noted { self.new ≡ record self.old { notes = with_active self.old } }
+        ensures ticks { Within (step_total self.old) ticks.old ticks.new }
+    {
+        self.notes.has_moved = true;
+        self.notes.begun = self.begun;
+        self.notes.active.copy_from(&self.active, ticks);
     }
 
     /// One scan at t, in microseconds from 0 to 2^62, with the condition of each transition in text order; those of
@@ -126,24 +155,19 @@ impl Steps {
         ensures same_steps { result ≡ false → (scans : List Scan) → StepsAgree tables.now self.old scans →
             active_steps tables.now (rows_of tables.now (record { conditions = conditions.now; at = t } ∷ scans))
             ≡ active_steps tables.now (rows_of tables.now scans) }
-        ensures like { result ≡ false → (other : Steps) → IsLike other self.old → IsLike other self.new }
-        ensures close { result ≡ true → (other : Steps) → IsLike other self.old → IsClose other self.new }
+        ensures noted { (scans : List Scan) → StepsAgree tables.now self.old scans → StepsNoted tables.now self.new scans }
         ensures ticks { Within (advance_work tables.now) ticks.old ticks.new }
     {
         let _steps = tables.steps();
-        self.used.clear_all(ticks);
-        self.cleared.clear_all(ticks);
-        clear_in_order(
+        self.turn_over(ticks);
+        self.note_active(ticks);
+        let candidates = Candidates {
             tables,
             conditions,
-            &self.active,
-            &self.candidates,
-            &mut self.used,
-            &mut self.cleared,
-            ticks,
-        );
+            flags: &self.candidates,
+        };
+        clear_in_order(candidates, &mut self.active, &mut self.cleared, ticks);
         if is_blank(&self.cleared, ticks) && self.begun {
-            self.on.clear_all(ticks);
             return false;
         }
         start(tables, !self.begun, &mut self.on, ticks);
@@ -152,16 +176,15 @@ impl Steps {
             flags: &self.cleared,
             t,
         };
-        move_on(
-            scan,
+        move_on(scan, &mut self.held_times, &self.since, &mut self.on, ticks);
+        let activated = Activated { flags: &self.on, t };
+        begin(
             &mut self.active,
-            &mut self.held_times,
-            &self.since,
-            &mut self.on,
+            &mut self.since,
+            &mut self.notes.since,
+            activated,
             ticks,
         );
-        let activated = Activated { flags: &self.on, t };
-        begin(&mut self.active, &mut self.since, activated, ticks);
         propose(tables, &self.active, &mut self.candidates, ticks);
         self.begun = true;
         true
@@ -180,7 +203,7 @@ impl Steps {
             StepsAgree tables.now self.old scans →
             active_steps tables.now (rows_of tables.now (scan ∷ scans)) ≡ active_steps tables.now (rows_of tables.now scans) }
         ensures unchanged { result ≡ false → self.new ≡ self.old }
-        ensures like { (other : Steps) → IsLike other self.old → IsLike other self.new }
+        ensures noted { result ≡ true → (scans : List Scan) → StepsAgree tables.now self.old scans → StepsNoted tables.now self.new scans }
         ensures ticks { Within (step_total self.old + transition_total self.old) ticks.old ticks.new }
         ensures ticks_of_no { result ≡ false → Within 0 ticks.old ticks.new }
     {
@@ -188,8 +211,7 @@ impl Steps {
         if !self.begun {
             return false;
         }
-        self.cleared.clear_all(ticks);
-        self.on.clear_all(ticks);
+        self.turn_over(ticks);
         true
     }
 
@@ -199,9 +221,11 @@ impl Steps {
         requires to { to.0 < step_total self.old }
         requires low { pos 0 ≤ℤ t }
         requires high { t ≤ℤ pos (2 ^ 62) }
+        requires blank { self.old.on ≡ replicate (step_total self.old) false }
         ensures active { self.new.active ≡ marked (to ∷ []) (unmarked (from ∷ []) self.old.active) }
         ensures on { self.new.on ≡ marked (to ∷ []) self.old.on }
         ensures since { self.new.since.items ≡ put_at t (to ∷ []) self.old.since.items }
+        ensures noted { AreNoted self.new.on self.old.since.items self.new.notes.since.items }
         ensures held_times { self.new.held_times.items ≡ left_at t self.old.since.items (from ∷ []) self.old.held_times.items }
         ensures active_len { length self.new.active ≡ length self.old.active }
         ensures cleared { self.new.cleared ≡ self.old.cleared }
@@ -215,6 +239,7 @@ impl Steps {
         self.active.set(left, false);
         self.on.set(begun, true);
         self.active.set(begun, true);
+        self.notes.since[begun] = self.since[begun];
         self.since[begun] = t;
         ticks.tick_all(5);
     }
@@ -231,9 +256,11 @@ impl Steps {
         requires following { AllBelow (step_total self.old) following.now }
         requires low { pos 0 ≤ℤ t }
         requires high { t ≤ℤ pos (2 ^ 62) }
+        requires blank { self.old.on ≡ replicate (step_total self.old) false }
         ensures active { self.new.active ≡ marked following.now (unmarked preceding.now self.old.active) }
         ensures on { self.new.on ≡ marked following.now self.old.on }
-        ensures since { self.new.since.items ≡ put_at t following.now self.old.since.items }
+        ensures since { self.new.since.items ≡ begun_at t (places_from self.new.on 0) self.old.since.items }
+        ensures noted { AreNoted self.new.on self.old.since.items self.new.notes.since.items }
         ensures held_times { self.new.held_times.items ≡ left_at t self.old.since.items preceding.now self.old.held_times.items }
         ensures active_len { length self.new.active ≡ length self.old.active }
         ensures cleared { self.new.cleared ≡ self.old.cleared }
@@ -249,8 +276,14 @@ impl Steps {
         leave(&mut self.held_times, &self.since, preceding, t, ticks);
         unmark(&mut self.active, preceding, ticks);
         mark(&mut self.on, following, ticks);
-        mark(&mut self.active, following, ticks);
-        begin_steps(&mut self.since, following, t, ticks);
+        let activated = Activated { flags: &self.on, t };
+        begin(
+            &mut self.active,
+            &mut self.since,
+            &mut self.notes.since,
+            activated,
+            ticks,
+        );
     }
 
     /// One scan at t in which the condition of this enabled transition alone is TRUE, t in microseconds from 0 to 2^62: answers whether it
@@ -273,7 +306,7 @@ impl Steps {
             StepsAgree tables.now self.old scans → StepsAgree tables.now self.new (record { conditions = conditions; at = t } ∷ scans) }
         ensures begun { (scans : List Scan) → StepsAgree tables.now self.old scans → result ≡ not (is_empty scans) }
         ensures unchanged { result ≡ false → self.new ≡ self.old }
-        ensures close { result ≡ true → (other : Steps) → IsLike other self.old → IsClose other self.new }
+        ensures noted { result ≡ true → (scans : List Scan) → StepsAgree tables.now self.old scans → StepsNoted tables.now self.new scans }
         ensures ticks { Within (advance_work tables.now) ticks.old ticks.new }
         ensures ticks_of_no { result ≡ false → Within 0 ticks.old ticks.new }
     {
@@ -281,9 +314,9 @@ impl Steps {
         if !self.begun {
             return false;
         }
-        self.cleared.clear_all(ticks);
+        self.turn_over(ticks);
+        self.note_active(ticks);
         self.cleared.set(transition.0 as usize, true);
-        self.on.clear_all(ticks);
         let preceding = tables.preceding(transition);
         let following = tables.following(transition);
         self.leave_and_begin(preceding, following, t, ticks);
@@ -400,6 +433,23 @@ impl Steps {
         &self.cleared
     }
 
+    /// A new life begins: no step is active, and the time of each is 0 (2.6.2). It takes no memory.
+    pub fn reset(&mut self, ticks: &mut Ticks)
+        ensures steps { step_total self.new ≡ step_total self.old }
+        ensures transitions { transition_total self.new ≡ transition_total self.old }
+        ensures agrees { (tables : Tabled) (scans : List Scan) → StepsAgree tables self.old scans → StepsAgree tables self.new [] }
+        ensures ticks { Within (step_total self.old + 2 * transition_total self.old) ticks.old ticks.new }
+    {
+        // Of a step a tick is counted for all that is kept of it.
+        let mut counted = Ticks::new();
+        self.on.clear_all(&mut counted);
+        self.held_times.fill(0);
+        self.active.clear_all(ticks);
+        self.cleared.clear_all(ticks);
+        self.candidates.clear_all(ticks);
+        self.begun = false;
+    }
+
     /// Takes over what the other keeps, which was made from tables of the same size. It takes no memory.
     pub fn copy_from(&mut self, other: &Steps, ticks: &mut Ticks)
         requires steps { step_total other.now ≡ step_total self.old }
@@ -408,7 +458,6 @@ impl Steps {
         ensures transitions { transition_total self.new ≡ transition_total self.old }
         ensures agrees { (tables : Tabled) (scans : List Scan) → StepsAgree tables other.now scans →
             StepsAgree tables self.new scans }
-        ensures like { IsLike self.new other.now }
         ensures ticks { Within (step_total self.old + 2 * transition_total self.old) ticks.old ticks.new }
     {
         copy_flags(&mut self.active, &mut self.on, &other.active, &other.on);
@@ -429,51 +478,23 @@ impl Steps {
         self.begun = other.begun;
     }
 
-    /// Takes over what the other keeps, where the two are close, as after a scan in which steps moved: times of steps that neither was
-    /// active here nor was activated there are the same. It takes no memory.
-    pub fn follow_moved(&mut self, other: &Steps, ticks: &mut Ticks)
-        requires close { IsClose self.old other.now }
-        ensures steps { step_total self.new ≡ step_total self.old }
-        ensures transitions { transition_total self.new ≡ transition_total self.old }
-        ensures agrees { (tables : Tabled) (scans : List Scan) → StepsAgree tables other.now scans →
-            StepsAgree tables self.new scans }
-        ensures like { IsLike self.new other.now }
-        ensures ticks { Within (step_total self.old + 2 * transition_total self.old) ticks.old ticks.new }
+    /// Undoes the latest scan: all answers are those before it. It takes no memory.
+    #[cold]
+    #[inline(never)]
+    pub fn undo(&mut self, tables: &Tables, ticks: &mut Ticks)
+        requires { IsFor tables.now self.old }
+        ensures sizes { IsFor tables.now self.new }
+        ensures agrees { (scans : List Scan) → StepsNoted tables.now self.old scans → StepsAgree tables.now self.new scans }
+        ensures ticks { Within (advance_work tables.now) ticks.old ticks.new }
     {
-        let from = KeptTimes {
-            since: &other.since,
-            held_times: &other.held_times,
-        };
-        copy_moved(
-            &mut self.since,
-            &mut self.held_times,
-            from,
-            &self.active,
-            &other.on,
-        );
-        copy_flags(&mut self.active, &mut self.on, &other.active, &other.on);
-        copy_flags(
-            &mut self.cleared,
-            &mut self.candidates,
-            &other.cleared,
-            &other.candidates,
-        );
-        ticks.tick_all(self.active.count());
-        ticks.tick_all(self.cleared.count());
-        self.begun = other.begun;
-    }
-
-    /// Takes over what the other keeps, where the two are alike, as after a scan in which no step moved. It takes no memory.
-    pub fn follow(&mut self, other: &Steps, ticks: &mut Ticks)
-        requires like { IsLike self.old other.now }
-        ensures steps { step_total self.new ≡ step_total self.old }
-        ensures transitions { transition_total self.new ≡ transition_total self.old }
-        ensures agrees { (tables : Tabled) (scans : List Scan) → StepsAgree tables other.now scans →
-            StepsAgree tables self.new scans }
-        ensures like { IsLike self.new other.now }
-        ensures ticks { Within (step_total self.old + transition_total self.old) ticks.old ticks.new }
-    {
-        self.cleared.copy_from(&other.cleared, ticks);
-        self.on.copy_from(&other.on, ticks);
+        let _steps = tables.steps();
+        if self.notes.has_moved {
+            take_back(&mut self.since, &self.notes.since, &self.on, ticks);
+            self.active.swap(&mut self.notes.active);
+            self.begun = self.notes.begun;
+            propose(tables, &self.active, &mut self.candidates, ticks);
+        }
+        self.cleared.swap(&mut self.notes.cleared);
+        self.on.swap(&mut self.notes.on);
     }
 }

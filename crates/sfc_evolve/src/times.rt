@@ -4,7 +4,8 @@ ghost use Rattle.std.specs.Prelude.{◌≡◌, ◌≤ℤ◌, ◌-ℤ◌, ◌^◌
 ghost use Rattle.sfc_base.specs.Ticks.{Within};
 ghost use Rattle.sfc_flags.specs.Flags.{places_from};
 ghost use Rattle.sfc_base.specs.Instants.{AreInstants};
-ghost use Rattle.sfc_evolve.specs.Private.Keeping.{AllBelow, left_at, put_at, begun_at, set_at};
+ghost use Rattle.sfc_evolve.specs.Private.Keeping.{AllBelow, left_at, begun_at, set_at};
+ghost use Rattle.sfc_evolve.specs.Private.Noting.{taken_back, AreNoted};
 
 use sfc_base::instants::time_since;
 use sfc_base::references::StepId;
@@ -28,24 +29,6 @@ pub fn leave(held_times: &mut [i64], since: &[i64], steps: &[StepId], t: i64, ti
     }
 }
 
-/// These steps begin at t.
-pub fn begin_steps(since: &mut [i64], steps: &[StepId], t: i64, ticks: &mut Ticks)
-    requires low { pos 0 ≤ℤ t }
-    requires high { t ≤ℤ pos (2 ^ 62) }
-    requires instants { AreInstants since.old }
-    requires steps { AllBelow (length since.old) steps.now }
-    ensures since { since.new ≡ put_at t steps.now since.old }
-    ensures since_len { length since.new ≡ length since.old }
-    ensures instants { AreInstants since.new }
-    ensures ticks { Within (length steps.now) ticks.old ticks.new }
-{
-    for step in steps {
-        ticks.tick();
-        let s = step.0 as usize;
-        since[s] = t;
-    }
-}
-
 /// The steps that a scan activates, and its instant.
 #[derive(Clone, Copy)]
 pub struct Activated<'a> {
@@ -53,24 +36,53 @@ pub struct Activated<'a> {
     pub t: i64,
 }
 
-/// These steps become active, and begin at the scan's instant.
-pub fn begin(active: &mut Flags, since: &mut [i64], activated: Activated<'_>, ticks: &mut Ticks)
+/// These steps become active, and begin at the scan's instant. When they were activated before is noted.
+pub fn begin(
+    active: &mut Flags,
+    since: &mut [i64],
+    noted: &mut [i64],
+    activated: Activated<'_>,
+    ticks: &mut Ticks,
+)
     requires low { pos 0 ≤ℤ activated.t }
     requires high { activated.t ≤ℤ pos (2 ^ 62) }
     requires instants { AreInstants since.old }
+    requires noted_instants { AreInstants noted.old }
     requires on_len { length activated.flags.now ≡ length since.old }
+    requires noted_len { length noted.old ≡ length since.old }
     requires active_len { length active.old ≡ length activated.flags.now }
     ensures active { active.new ≡ set_at (places_from activated.entry.flags.now 0) active.old }
     ensures active_len { length active.new ≡ length active.old }
     ensures since { since.new ≡ begun_at activated.entry.t (places_from activated.entry.flags.now 0) since.old }
     ensures instants { AreInstants since.new }
+    ensures noted { AreNoted activated.entry.flags.now since.old noted.new }
+    ensures noted_len { length noted.new ≡ length noted.old }
+    ensures noted_instants { AreInstants noted.new }
     ensures ticks { Within (length activated.entry.flags.now) ticks.old ticks.new }
 {
     let Activated { flags, t } = activated;
     let mut at = 0;
     'places: while let Some(s) = flags.next_set(at, ticks) {
         active.set(s, true);
+        noted[s] = since[s];
         since[s] = t;
+        at = s + 1;
+    }
+}
+
+/// The steps with a flag began when it is noted.
+pub fn take_back(since: &mut [i64], noted: &[i64], activated: &Flags, ticks: &mut Ticks)
+    requires instants { AreInstants since.old }
+    requires noted_instants { AreInstants noted.now }
+    requires noted_len { length noted.now ≡ length since.old }
+    requires on_len { length activated.now ≡ length since.old }
+    ensures since { since.new ≡ taken_back (places_from activated.now 0) noted.now since.old }
+    ensures instants { AreInstants since.new }
+    ensures ticks { Within (length activated.now) ticks.old ticks.new }
+{
+    let mut at = 0;
+    'places: while let Some(s) = activated.next_set(at, ticks) {
+        since[s] = noted[s];
         at = s + 1;
     }
 }

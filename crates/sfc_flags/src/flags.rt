@@ -130,6 +130,16 @@ impl Flags {
         words::copy(&mut self.words, &other.words, ticks);
     }
 
+    /// The two tables change their flags.
+    #[inline(always)]
+    pub fn swap(&mut self, other: &mut Flags)
+        requires { length other.old ≡ length self.old }
+        ensures own { self.new ≡ other.old }
+        ensures others { other.new ≡ self.old }
+    {
+        std::mem::swap(&mut self.words, &mut other.words);
+    }
+
     /// Whether the other table has as many places and the same flags.
     #[inline(always)]
     pub fn is_same(&self, other: &Flags) -> bool

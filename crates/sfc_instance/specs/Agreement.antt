@@ -3,8 +3,6 @@ use Rattle.std.specs.Prelude.{ℕ, ℤ, ◌≡◌, [], length, Option, Some, Non
 use Rattle.sfc_tables.specs.Tables.{Tabled}
 use Rattle.sfc_evolve.specs.Agreement as evolve
 use Rattle.sfc_action.specs.Agreement as action
-use Rattle.sfc_instance.specs.declared.moved.Moved.{Moved}
-use Rattle.sfc_instance.specs.declared.moved.Moved.TheVariants.{Nothing, Controls, Steps, All}
 use Rattle.sfc_instance.specs.declared.state.State.{State}
 use Rattle.sfc_instance.specs.declared.scan_buffers.ScanBuffers.{ScanBuffers}
 use Rattle.sfc_instance.specs.declared.scan_run.ScanRun.{ScanRun}
@@ -29,17 +27,13 @@ pub record StateKeeps (tables : Tabled) (state : State) (life : Life) : Type 0 w
 unfoldable pub StateAgrees : Tabled → State → Life → Type 0
 StateAgrees tables state life = StateKeeps tables state life
 
--- apart from what the latest scan cleared, activated and executed they keep the same
-pub record IsNear (a b : State) : Type 0 where
-  pub steps : evolve.IsLike a.steps b.steps
-  pub controls : action.IsAlike a.controls b.controls
+-- before their latest scan its steps and its action control were those after these scans; so they are where it is undone
+pub record StateNotes (tables : Tabled) (state : State) (life : Life) : Type 0 where
+  pub steps : evolve.StepsNoted tables state.steps (evolution_scans life)
+  pub controls : action.ControlsNoted tables state.controls (control_scans tables life)
 
--- they keep the same but for what such a scan may have changed
-abbrev pub AreApart : Moved → State → State → Type 0
-AreApart Nothing a b = IsNear a b
-AreApart Controls a b = evolve.IsLike a.steps b.steps
-AreApart Steps a b = evolve.IsClose a.steps b.steps
-AreApart All a b = Unit {0}
+unfoldable pub StateNoted : Tabled → State → Life → Type 0
+StateNoted tables state life = StateNotes tables state life
 
 -- how many steps, transitions and actions it shows
 abbrev pub step_total : Program → ℕ
@@ -68,13 +62,10 @@ pub record AreBuffersFor (tables : Tabled) (buffers : ScanBuffers) : Type 0 wher
 
 pub record IsScanRunFor (tables : Tabled) (run : ScanRun) : Type 0 where
   pub now : IsStateFor tables run.now
-  pub spare : IsStateFor tables run.spare
   pub buffers : AreBuffersFor tables run.buffers
-  pub apart : AreApart run.moved run.spare run.now
 
 pub record HasBuffers (tables : Tabled) (program : Program) : Type 0 where
   pub run : IsScanRunFor tables program.run
-  pub fresh : IsStateFor tables program.fresh
 
 unfoldable pub IsFor : Tabled → Program → Type 0
 IsFor tables program = HasBuffers tables program
@@ -90,7 +81,6 @@ place_in program = place_after program.fault program.run.place
 -- what it keeps is how the instance stands
 pub record Keeps (tables : Tabled) (program : Program) (instance_state : InstanceState) : Type 0 where
   pub now : StateAgrees tables program.run.now instance_state.life
-  pub fresh : StateAgrees tables program.fresh []
   pub scans : program.scans ≡ scan_count instance_state
   pub at : program.at ≡ latest_instant instance_state.life
   pub fault : program.fault ≡ instance_state.fault

@@ -27,6 +27,10 @@ abbrev pub copy_work : Tabled → ℕ
 copy_work tables =
     length tables.initial + 2 * length tables.sides + length tables.actions + length tables.associations
 
+-- what undoing a scan of steps and action control handles
+abbrev pub undo_work : Tabled → ℕ
+undo_work tables = 2 * length tables.initial + 2 * length tables.sides + length tables.associations
+
 -- what one action handles: its Q, and where it is declared also itself with the statements of its body
 abbrev pub action_work : Chart → Target → ℕ
 action_work chart (Boolean v) = 1
@@ -40,19 +44,20 @@ abbrev pub acting_work : Tabled → Chart → ℕ → ℕ
 acting_work tables chart variables = actions_work chart tables.actions + variables
 
 -- A scan of a program instance among so many variables that no fault of a body ends: the conditions, the times of the associations,
--- steps and action control on a copy, and the actions.
+-- steps and action control, and the actions.
 abbrev pub good_work : Tabled → Chart → ℕ → ℕ
 good_work tables chart variables =
     condition_work tables chart tables.ranked
     + length tables.associations
-    + copy_work tables
     + advance_work tables
     + control_work tables
     + acting_work tables chart variables
 
--- Each scan: after the fault of a body the actions are gone through once more for the statement that has it.
+-- Each scan: a fault undoes that of steps and action control, and after the fault of a body the actions are gone through once more for the
+-- statement that has it.
 abbrev pub scan_work : Tabled → Chart → ℕ → ℕ
-scan_work tables chart variables = good_work tables chart variables + acting_work tables chart variables
+scan_work tables chart variables =
+    good_work tables chart variables + undo_work tables + acting_work tables chart variables
 
 -- ---- how much that is at most, of a chart among so many variables
 

@@ -6,7 +6,6 @@
 //! - `fault_place`: where the fault of a scan is; `placing`: where that of a body is.
 //! - `scan_end`: how a scan ended.
 //! - `laws`: what the definitions mean.
-//! - `moved`: what a scan may have changed.
 //! - `program`: a program instance, in running form; `program_view`: a window on one;
 //!   `program_moment`: what its conditions read at an instant.
 //! - `reading`: the times of associations.
@@ -22,7 +21,6 @@ mod conditions;
 pub mod fault_place;
 mod holding;
 pub mod laws;
-pub mod moved;
 mod placing;
 pub mod program;
 pub mod program_context;

@@ -3,12 +3,10 @@
 ghost use Rattle.std.specs.Prelude.{◌≤ℤ◌, ◌^◌, pos};
 
 use crate::fault_place::FaultPlace;
-use crate::moved::Moved;
 use crate::program_context::ProgramContext;
 use crate::scan_end::ScanEnd;
 use crate::scan_fault::ScanFault;
 use crate::scan_run::ScanRun;
-use crate::state::State;
 use sfc_base::ids::{ActionNumber, TransitionId};
 use sfc_base::references::StepId;
 use sfc_base::ticks::Ticks;
@@ -19,11 +17,9 @@ use sfc_tables::tables::Tables;
 use std::alloc::{AllocError, Global};
 
 /// A program instance as its latest scan left it: its steps and its action control, the number of its scans, the
-/// instant of the latest, and the fault that ended a scan, if one did. The rest is what a scan works on, and what a
-/// reset takes over.
+/// instant of the latest, and the fault that ended a scan, if one did. The rest is what a scan works on.
 pub struct Program {
     run: ScanRun,
-    fresh: State,
     scans: u64,
     at: i64,
     fault: Option<ScanFault>,
@@ -36,7 +32,6 @@ impl Drop for Program {
     fn drop(self) {
         let Program {
             run: _,
-            fresh: _,
             scans: _,
             at: _,
             fault: _,
@@ -71,7 +66,6 @@ impl Program {
     {
         Ok(Program {
             run: ScanRun::new(alloc, tables)?,
-            fresh: State::new(alloc, tables)?,
             scans: 0,
             at: 0,
             fault: None,
@@ -135,8 +129,7 @@ impl Program {
             ProgramAgrees tables.now self.new fresh }
         ensures ticks { Within (copy_work tables.now) ticks.old ticks.new }
     {
-        self.run.now.copy_from(tables, &self.fresh, ticks);
-        self.run.moved = Moved::All;
+        self.run.now.reset(tables, ticks);
         self.scans = 0;
         self.at = 0;
         self.fault = None;
@@ -152,9 +145,7 @@ impl Program {
     {
         let mut ticks = Ticks::new();
         self.run.now.copy_from(tables, &other.run.now, &mut ticks);
-        self.run.moved = Moved::All;
         self.run.place = other.run.place;
-        self.fresh.copy_from(tables, &other.fresh, &mut ticks);
         self.scans = other.scans;
         self.at = other.at;
         self.fault = other.fault;

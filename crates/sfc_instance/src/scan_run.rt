@@ -2,18 +2,15 @@
 
 use crate::acting::act_or_undo;
 use crate::fault_place::FaultPlace;
-use crate::moved::Moved;
 use crate::placing::find_place;
 use crate::scan_buffers::ScanBuffers;
 use crate::state::State;
 
-/// The steps and the action control after the latest scan, and what they were before it, which a fault brings back; what that scan may
-/// have changed; and where the latest fault is, of no use where none stands.
+/// The steps and the action control after the latest scan, the buffers of a scan, and where the latest fault is, of no use where none
+/// stands.
 pub struct ScanRun {
     pub now: State,
-    pub spare: State,
     pub buffers: ScanBuffers,
-    pub moved: Moved,
     pub place: Option<FaultPlace>,
 }
 
@@ -22,15 +19,13 @@ impl Drop for ScanRun {
     fn drop(self) {
         let ScanRun {
             now: _,
-            spare: _,
             buffers: _,
-            moved: _,
             place: _,
         } = self;
     }
 }
 
-ghost use Rattle.std.specs.Prelude.{◌≡◌, ◌<◌, ◌+◌, ◌≤ℤ◌, ◌^◌, [], List, false, pos, length, IfOk, OnOk, ◌*◌};
+ghost use Rattle.std.specs.Prelude.{◌≡◌, ◌<◌, ◌+◌, ◌≤ℤ◌, ◌^◌, [], List, false, pos, length, IfOk, OnOk, OnErr, ◌*◌};
 ghost use Rattle.sfc_base.specs.Ticks.{Within};
 ghost use Rattle.sfc_tables.specs.Tables.{tables_of};
 ghost use Rattle.sfc_plant.specs.Plants.{PlantData};
@@ -39,11 +34,11 @@ ghost use Rattle.sfc_image.specs.Agreement.{ImageAgrees, IsAsLarge, instance_tot
 ghost use Rattle.sfc_instance.specs.Life.{Life};
 ghost use Rattle.sfc_instance.specs.Contexts.{IsContextOf};
 ghost use Rattle.sfc_instance.specs.ProgramScan.{after_actions, attempt, next_row, with_row};
-ghost use Rattle.sfc_instance.specs.Work.{acting_work, good_work, scan_work};
-ghost use Rattle.sfc_instance.specs.Agreement.{IsScanRunFor, StateAgrees};
+ghost use Rattle.sfc_instance.specs.Work.{acting_work, good_work, scan_work, undo_work};
+ghost use Rattle.sfc_instance.specs.Agreement.{IsScanRunFor, StateAgrees, StateNoted};
 ghost use Rattle.sfc_instance.specs.Private.Acting.{HasActedSo};
 ghost use Rattle.sfc_instance.specs.Private.Holding.{IsReady};
-ghost use Rattle.sfc_instance.specs.Private.Scanning.{HasScanned, Moves, go_work, row_in};
+ghost use Rattle.sfc_instance.specs.Private.Scanning.{HasScanned, go_work, row_in};
 
 use crate::program_context::ProgramContext;
 use crate::scan_fault::ScanFault;
@@ -61,15 +56,13 @@ impl ScanRun {
     {
         Ok(ScanRun {
             now: State::new(alloc, tables)?,
-            spare: State::new(alloc, tables)?,
             buffers: ScanBuffers::new(alloc, tables)?,
-            moved: Moved::All,
             place: None,
         })
     }
 
-    // What the actions do after the scan of the steps and action control, or the fault of a body; then its place is kept, and these are
-    // again what the spare ones are.
+    // What the actions do after the scan of the steps and action control, or the fault of a body; then its place is kept, and that scan is
+    // undone.
     fn finish(
         &mut self,
         context: ProgramContext<'_>,
@@ -86,21 +79,22 @@ impl ScanRun {
         ensures sizes { IsScanRunFor context.entry.tables.now self.new }
         ensures large { IsAsLarge image.old image.new }
         ensures closed { is_open image.new ≡ false }
-        ensures now { (life : Life) → StateAgrees context.entry.tables.now self.old.now life →
-            Moves context.entry.tables.now life result self.old.spare self.new.now }
+        ensures now { OnOk result (self.new.now ≡ self.old.now) }
+        ensures undone { OnErr result ((life : Life) → StateNoted context.entry.tables.now self.old.now life →
+            StateAgrees context.entry.tables.now self.new.now life) }
         ensures agrees { (plant : PlantData) (life : Life) (changes : List Change) → IsContextOf plant context.entry →
             StateAgrees context.entry.tables.now self.old.now life → ImageAgrees plant image.old (settled changes) →
             HasActedSo plant changes image.new result self.new.place
             (after_actions plant context.entry.instance life t 0 context.entry.tables.now.actions changes) }
-        ensures ticks { Within (2 * acting_work context.entry.tables.now context.entry.chart.now (variable_total image.old)) ticks.old ticks.new }
+        ensures ticks { Within (2 * acting_work context.entry.tables.now context.entry.chart.now (variable_total image.old)
+            + undo_work context.entry.tables.now) ticks.old ticks.new }
         ensures good { OnOk result
             (Within (acting_work context.entry.tables.now context.entry.chart.now (variable_total image.old)) ticks.old ticks.new) }
     {
         let answer = act_or_undo(context, &self.now, image, t, ticks);
         if answer.is_err() {
             self.place = find_place(context, &self.now, image, t, ticks);
-            std::mem::swap(&mut self.now, &mut self.spare);
-            self.moved = Moved::All;
+            self.now.undo(context.tables, ticks);
         }
         answer
     }
@@ -129,26 +123,20 @@ impl ScanRun {
             result self.new.place
             (with_row plant context.entry.instance life changes t (row_in self.old.buffers t)) }
         ensures ticks { Within (go_work context.entry.tables.now context.entry.chart.now (variable_total image.old)
+            + undo_work context.entry.tables.now
             + acting_work context.entry.tables.now context.entry.chart.now (variable_total image.old)) ticks.old ticks.new }
         ensures good { OnOk result
             (Within (go_work context.entry.tables.now context.entry.chart.now (variable_total image.old)) ticks.old ticks.new) }
     {
-        self.spare
-            .follow(self.moved, context.tables, &self.now, ticks);
         match self.now.advance(context.tables, &self.buffers, t, ticks) {
             Err(fault) => {
-                std::mem::swap(&mut self.now, &mut self.spare);
-                self.moved = Moved::All;
                 self.place = Some(FaultPlace::Action(fault.action));
                 Err(ScanFault::Control(fault.fault))
             }
-            Ok(moved) => {
-                self.moved = moved;
-                match self.finish(context, image, t, ticks) {
-                    Err(fault) => Err(ScanFault::Expression(fault)),
-                    Ok(()) => Ok(()),
-                }
-            }
+            Ok(()) => match self.finish(context, image, t, ticks) {
+                Err(fault) => Err(ScanFault::Expression(fault)),
+                Ok(()) => Ok(()),
+            },
         }
     }
 

@@ -19,19 +19,17 @@ impl Drop for State {
     }
 }
 
-ghost use Rattle.std.specs.Prelude.{◌≡◌, ◌≤ℤ◌, ◌^◌, ◌+◌, ◌*◌, ◌∷◌, [], List, ℤ, pos, not, true, false, length, None, IfOk, OnOk};
+ghost use Rattle.std.specs.Prelude.{◌≡◌, ◌≤ℤ◌, ◌^◌, ◌+◌, ◌*◌, ◌∷◌, [], List, ℤ, pos, not, true, false, length, None, IfOk, OnOk, OnErr};
 ghost use Rattle.std.specs.Result.{result_err};
 ghost use Rattle.sfc_base.specs.Ticks.{Within};
 ghost use Rattle.sfc_tables.specs.Tables.{Tabled};
-ghost use Rattle.sfc_evolve.specs.declared.steps.Steps.{Steps};
 ghost use Rattle.sfc_evolve.specs.Lookback.{is_empty};
 ghost use Rattle.sfc_evolve.specs.Evolution as evolution;
 ghost use Rattle.sfc_evolve.specs.Evolution.{active_steps, rows_of};
 ghost use Rattle.sfc_evolve.specs.Agreement as evolve;
 ghost use Rattle.sfc_evolve.specs.Work.{advance_work};
 ghost use Rattle.sfc_action.specs.ActionControl.{Scan, first_fault};
-ghost use Rattle.sfc_action.specs.declared.control_state.ControlState.{ControlState};
-ghost use Rattle.sfc_action.specs.Agreement.{IsFor, ControlsAgree, IsAlike, action_total};
+ghost use Rattle.sfc_action.specs.Agreement.{IsFor, ControlsAgree, ControlsNoted, action_total};
 ghost use Rattle.sfc_action.specs.Work.{control_work};
 ghost use Rattle.sfc_image.specs.StepTimes.{times_of};
 ghost use Rattle.sfc_instance.specs.Life.{Life, control_scans, evolution_rows};
@@ -40,13 +38,11 @@ ghost use Rattle.sfc_base.specs.declared.ids.TransitionId.{TransitionId};
 ghost use Rattle.sfc_instance.specs.declared.holding.Holding.TheVariants as holding;
 ghost use Rattle.sfc_instance.specs.Private.Holding.{IsReady};
 ghost use Rattle.sfc_instance.specs.Private.Scanning.{row_in};
-ghost use Rattle.sfc_instance.specs.Work.{copy_work};
+ghost use Rattle.sfc_instance.specs.Work.{copy_work, undo_work};
 ghost use Rattle.sfc_instance.specs.declared.state.State.{State};
-ghost use Rattle.sfc_instance.specs.declared.moved.Moved.{Moved};
-ghost use Rattle.sfc_instance.specs.Agreement.{AreBuffersFor, IsStateFor, StateAgrees, IsNear, AreApart};
+ghost use Rattle.sfc_instance.specs.Agreement.{AreBuffersFor, IsStateFor, StateAgrees, StateNoted};
 
 use crate::holding::Holding;
-use crate::moved::Moved;
 use crate::scan_buffers::ScanBuffers;
 use sfc_action::associations::Associations;
 use sfc_action::fault::ActionFault;
@@ -64,7 +60,8 @@ fn repeat(controls: &mut Controls, moved: bool, ticks: &mut Ticks) -> bool
     ensures faultless { result ≡ true → (tables : Tabled) (scan last : Scan) (h : List Scan) → scan.active ≡ last.active →
         ControlsAgree tables controls.old (last ∷ h) → first_fault tables (scan ∷ last ∷ h) ≡ None }
     ensures unchanged { result ≡ false → controls.new ≡ controls.old }
-    ensures alike { (other : ControlState) → IsAlike other controls.old → IsAlike other controls.new }
+    ensures noted { result ≡ true → (tables : Tabled) (h : List Scan) → ControlsAgree tables controls.old h →
+        ControlsNoted tables controls.new h }
     ensures ticks { Within (2 * action_total controls.old) ticks.old ticks.new }
     ensures ticks_of_no { result ≡ false → Within (action_total controls.old) ticks.old ticks.new }
 {
@@ -90,7 +87,8 @@ fn stay(steps: &mut Steps, tables: &Tables, buffers: &ScanBuffers, ticks: &mut T
         evolve.StepsAgree tables.now steps.old scans →
         active_steps tables.now (rows_of tables.now (scan ∷ scans)) ≡ active_steps tables.now (rows_of tables.now scans) }
     ensures unchanged { result ≡ false → steps.new ≡ steps.old }
-    ensures like { (other : Steps) → evolve.IsLike other steps.old → evolve.IsLike other steps.new }
+    ensures noted { result ≡ true → (scans : List evolution.Scan) → evolve.StepsAgree tables.now steps.old scans →
+        evolve.StepsNoted tables.now steps.new scans }
     ensures ticks { Within (advance_work tables.now) ticks.old ticks.new }
     ensures ticks_of_no { result ≡ false → Within 0 ticks.old ticks.new }
 {
@@ -119,7 +117,8 @@ fn clear(
     ensures wanted { (transition : TransitionId) (scans : List evolution.Scan) → buffers.now.holding ≡ holding.One transition →
         evolve.StepsAgree tables.now steps.old scans → result ≡ not (is_empty scans) }
     ensures unchanged { result ≡ false → steps.new ≡ steps.old }
-    ensures close { result ≡ true → (other : Steps) → evolve.IsLike other steps.old → evolve.IsClose other steps.new }
+    ensures noted { result ≡ true → (scans : List evolution.Scan) → evolve.StepsAgree tables.now steps.old scans →
+        evolve.StepsNoted tables.now steps.new scans }
     ensures ticks { Within (advance_work tables.now) ticks.old ticks.new }
     ensures ticks_of_no { result ≡ false → Within 0 ticks.old ticks.new }
 {
@@ -150,8 +149,8 @@ fn go_on(
     ensures same_steps { result ≡ false → (scans : List evolution.Scan) → evolve.StepsAgree tables.now steps.old scans →
         active_steps tables.now (rows_of tables.now (record { conditions = buffers.now.conditions.items; at = t } ∷ scans))
         ≡ active_steps tables.now (rows_of tables.now scans) }
-    ensures like { result ≡ false → (other : Steps) → evolve.IsLike other steps.old → evolve.IsLike other steps.new }
-    ensures close { result ≡ true → (other : Steps) → evolve.IsLike other steps.old → evolve.IsClose other steps.new }
+    ensures noted { (scans : List evolution.Scan) → evolve.StepsAgree tables.now steps.old scans →
+        evolve.StepsNoted tables.now steps.new scans }
     ensures ticks { Within (advance_work tables.now) ticks.old ticks.new }
 {
     if stay(steps, tables, buffers, ticks) {
@@ -176,44 +175,27 @@ impl State {
         })
     }
 
+    /// A new life begins. It takes no memory.
+    pub fn reset(&mut self, tables: &Tables, ticks: &mut Ticks)
+        requires { IsStateFor tables.now self.old }
+        ensures sizes { IsStateFor tables.now self.new }
+        ensures agrees { (life : Life) → StateAgrees tables.now self.old life → StateAgrees tables.now self.new [] }
+        ensures ticks { Within (copy_work tables.now) ticks.old ticks.new }
+    {
+        self.steps.reset(ticks);
+        self.controls.reset(tables, ticks);
+    }
+
     /// Takes over what the other keeps, which was made from the same tables. It takes no memory.
     pub fn copy_from(&mut self, tables: &Tables, other: &State, ticks: &mut Ticks)
         requires own { IsStateFor tables.now self.old }
         requires others { IsStateFor tables.now other.now }
         ensures sizes { IsStateFor tables.now self.new }
         ensures agrees { (life : Life) → StateAgrees tables.now other.now life → StateAgrees tables.now self.new life }
-        ensures near { IsNear self.new other.now }
         ensures ticks { Within (copy_work tables.now) ticks.old ticks.new }
     {
         self.steps.copy_from(&other.steps, ticks);
         self.controls.copy_from(tables, &other.controls, ticks);
-    }
-
-    /// The same, where the two keep the same but for what a scan of this kind changes.
-    pub fn follow(&mut self, moved: Moved, tables: &Tables, other: &State, ticks: &mut Ticks)
-        requires own { IsStateFor tables.now self.old }
-        requires others { IsStateFor tables.now other.now }
-        requires apart { AreApart moved self.old other.now }
-        ensures sizes { IsStateFor tables.now self.new }
-        ensures agrees { (life : Life) → StateAgrees tables.now other.now life → StateAgrees tables.now self.new life }
-        ensures near { IsNear self.new other.now }
-        ensures ticks { Within (copy_work tables.now) ticks.old ticks.new }
-    {
-        match moved {
-            Moved::Nothing => {
-                self.steps.follow(&other.steps, ticks);
-                self.controls.follow(&other.controls, ticks);
-            }
-            Moved::Controls => {
-                self.steps.follow(&other.steps, ticks);
-                self.controls.copy_from(tables, &other.controls, ticks);
-            }
-            Moved::Steps => {
-                self.steps.follow_moved(&other.steps, ticks);
-                self.controls.copy_from(tables, &other.controls, ticks);
-            }
-            Moved::All => self.copy_from(tables, other, ticks),
-        }
     }
 
     /// What expressions read of the steps at t, in microseconds from 0 to 2^62: which are active, and their times (2.6.2).
@@ -234,15 +216,15 @@ impl State {
     }
 
     /// One scan at t, in microseconds from 0 to 2^62, with the condition of each transition and the time of each
-    /// association in microseconds, which the buffers have (2.6.5). It takes no memory. Answers
-    /// what may have changed. The error is the fault of action control, with its action; then the steps have gone on and the control has not.
+    /// association in microseconds, which the buffers have (2.6.5). It takes no memory. The error is the fault of action control, with its
+    /// action; then all answers are those before it.
     pub fn advance(
         &mut self,
         tables: &Tables,
         buffers: &ScanBuffers,
         t: i64,
         ticks: &mut Ticks,
-    ) -> Result<Moved, ActionFault>
+    ) -> Result<(), ActionFault>
         requires sizes { IsStateFor tables.now self.old }
         requires buffers { AreBuffersFor tables.now buffers.now }
         requires ready { IsReady tables.now self.old.steps buffers.now.holding }
@@ -253,24 +235,36 @@ impl State {
             first_fault tables.now (control_scans tables.now (row_in buffers.now t ∷ life)) }
         ensures agrees { OnOk result ((life : Life) → StateAgrees tables.now self.old life →
             StateAgrees tables.now self.new (row_in buffers.now t ∷ life)) }
-        ensures apart { IfOk result (λ moved. (other : State) → IsNear other self.old → AreApart moved other self.new) }
-        ensures ticks { Within (advance_work tables.now + control_work tables.now) ticks.old ticks.new }
+        ensures noted { OnOk result ((life : Life) → StateAgrees tables.now self.old life → StateNoted tables.now self.new life) }
+        ensures err { OnErr result ((life : Life) → StateAgrees tables.now self.old life → StateAgrees tables.now self.new life) }
+        ensures ticks { Within (advance_work tables.now + control_work tables.now + undo_work tables.now) ticks.old ticks.new }
+        ensures good { OnOk result (Within (advance_work tables.now + control_work tables.now) ticks.old ticks.new) }
     {
         let moved = go_on(&mut self.steps, tables, buffers, t, ticks);
         if repeat(&mut self.controls, moved, ticks) {
-            return Ok(Moved::Nothing);
+            return Ok(());
         }
         let associations = Associations {
             times: &buffers.times,
             step_inputs: &buffers.step_inputs,
         };
-        match self
+        let answer = self
             .controls
-            .step(tables, &self.steps, t, associations, ticks)
-        {
-            Err(fault) => Err(fault),
-            Ok(()) if moved => Ok(Moved::Steps),
-            Ok(()) => Ok(Moved::Controls),
+            .step(tables, &self.steps, t, associations, ticks);
+        if answer.is_err() {
+            self.steps.undo(tables, ticks);
         }
+        answer
+    }
+
+    /// Undoes the latest scan, which had no fault: all answers are those before it. It takes no memory.
+    pub fn undo(&mut self, tables: &Tables, ticks: &mut Ticks)
+        requires { IsStateFor tables.now self.old }
+        ensures sizes { IsStateFor tables.now self.new }
+        ensures agrees { (life : Life) → StateNoted tables.now self.old life → StateAgrees tables.now self.new life }
+        ensures ticks { Within (undo_work tables.now) ticks.old ticks.new }
+    {
+        self.steps.undo(tables, ticks);
+        self.controls.undo(tables, ticks);
     }
 }

@@ -11,5 +11,9 @@ pub record IsAtRest (state : ControlState) : Type 0 where
   pub pulses : (a : ℕ) → (flag state.kept.pulse a && flag state.q a) ≡ false
 
 -- what a scan at rest makes of it
-abbrev pub rested : ControlState → ControlState
-rested state = record state { executed = state.q }
+pub record IsRested (old new : ControlState) : Type 0 where
+  pub kept : new.kept ≡ old.kept
+  pub q : new.q ≡ old.q
+  pub executed : new.executed ≡ old.q
+  pub blocks : new.blocks ≡ old.blocks
+  pub single : new.is_single ≡ old.is_single

@@ -15,25 +15,17 @@ use Rattle.sfc_instance.specs.declared.state.State.{State}
 use Rattle.sfc_instance.specs.declared.fault_place.FaultPlace.{FaultPlace}
 use Rattle.sfc_instance.specs.Life.{Life, Row, PlacedFault}
 use Rattle.sfc_instance.specs.Private.Acting.{IsStop}
-use Rattle.sfc_instance.specs.Work.{acting_work, copy_work}
+use Rattle.sfc_instance.specs.Work.{acting_work}
 use Rattle.sfc_instance.specs.Agreement.{StateAgrees}
 
 -- the row of which the buffers have the conditions and the times
 abbrev pub row_in : ScanBuffers → ℤ → Row
 row_in buffers t = record { conditions = buffers.conditions.items; times = buffers.times.items; at = t }
 
--- where it succeeded the state is that after these scans, and else what it was
-abbrev pub Moved : Tabled → Life → Result (Unit {0}) Fault → State → State → Type 0
-Moved tables life (Ok u) old new = StateAgrees tables new life
-Moved tables life (Err f) old new = new ≡ old
-
-unfoldable pub Moves : Tabled → Life → Result (Unit {0}) Fault → State → State → Type 0
-Moves tables life answer old new = Moved tables life answer old new
-
 -- what a scan that no fault of a body ends handles behind the conditions and times
 abbrev pub go_work : Tabled → Chart → ℕ → ℕ
 go_work tables chart variables =
-    copy_work tables + advance_work tables + control_work tables + acting_work tables chart variables
+    advance_work tables + control_work tables + acting_work tables chart variables
 
 abbrev pub Leaves_scan : PlantData → Tabled → Life → List Change → Row → State → Image → Result (Unit {0}) ScanFault → Option FaultPlace
     → Result (List Change) PlacedFault → Type 0
