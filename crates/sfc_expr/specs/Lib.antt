@@ -10,11 +10,11 @@ pub mod Division
 pub mod Meaning
 -- the effect of statements
 pub mod Effect
+-- what a condition asks
+pub mod Tests
 -- what expressions and statements have to handle
 pub mod Nodes
 -- the types of expressions and statements
 pub mod Types
 -- what an expression depends on, and what statements leave alone
 pub mod Dependence
--- What private clauses cite.
-pub mod Private

@@ -1,11 +1,14 @@
 //! What holds of types and meanings themselves. Each law is a function with an empty body, whose contract is the law.
 
-ghost use Rattle.std.specs.Prelude.{◌≡◌, ◌≢◌, ℤ, pos, int_div, int_rem, false, IfOk};
+ghost use Rattle.std.specs.Prelude.{◌≡◌, ◌≢◌, ℤ, pos, int_div, int_le, int_rem, false, IfOk};
 ghost use Rattle.sfc_base.specs.declared.var_type.VarType.{VarType};
 ghost use Rattle.sfc_expr.specs.Division.{IsDivision};
 ghost use Rattle.sfc_expr.specs.Trees.{Expression, Body};
 ghost use Rattle.sfc_expr.specs.Environment.{Environment};
-ghost use Rattle.sfc_expr.specs.Meaning.{value_of};
+ghost use Rattle.sfc_expr.specs.Meaning.{of_truth, value_of};
+ghost use Rattle.sfc_expr.specs.Tests.{test_of};
+ghost use Rattle.sfc_expr.specs.declared.test.Test.TheVariants.{LeastTime};
+ghost use Rattle.sfc_base.specs.declared.references.StepId.{StepId};
 ghost use Rattle.sfc_expr.specs.Effect.{effect};
 ghost use Rattle.sfc_expr.specs.Types.{Declared, IsOf, HasType, IsTyped, GivesTypes};
 ghost use Rattle.sfc_expr.specs.Dependence.{AgreeOn, KeepsAllButValues, is_assigned};
@@ -44,4 +47,11 @@ pub fn effect_on_values_alone()
 pub fn unassigned_stays()
     ensures { (v : Variable) (body : Body) (env : Environment) → is_assigned v body ≡ false →
         (effect body env).environment.stored_at v ≡ env.stored_at v }
+{}
+
+/// A condition that asks for a least time of a step, and for that alone, is TRUE where the step's time is at least that, else FALSE,
+/// and has no fault (2.6.2, 2.6.3).
+pub fn a_least_time_is_what_is_asked()
+    ensures { (env : Environment) (condition : Expression) (step : StepId) (t : ℤ) → test_of condition ≡ LeastTime step t →
+        value_of env condition ≡ of_truth (int_le t (env.time_of step)) }
 {}

@@ -18,7 +18,6 @@ use crate::program_context::ProgramContext;
 use sfc_base::ids::TransitionId;
 use sfc_base::ticks::Ticks;
 use sfc_evolve::steps::Steps;
-use sfc_expr::eval::holds;
 use sfc_expr::fault::Fault;
 use sfc_expr::view::View;
 
@@ -29,8 +28,8 @@ pub struct TransitionFault {
     pub fault: Fault,
 }
 
-// Whether the condition of the transition is TRUE. One that asks for a least time of a step alone is not evaluated.
-#[tactic(auto, using(crate::proofs::Asked::reached, crate::proofs::Asked::some_nodes))]
+// Whether the condition of the transition is TRUE.
+#[tactic(auto, using(crate::proofs::Asked::asks))]
 fn condition_holds<V: View>(
     context: ProgramContext<'_>,
     view: &V,
@@ -42,12 +41,11 @@ fn condition_holds<V: View>(
     ensures value { result ≡ truth_of (condition_result context.entry.chart.now (V.environment view.now) transition.0) }
     ensures ticks { Within (nodes (condition_in (slice_get context.entry.chart.now.transitions transition.0))) ticks.old ticks.new }
 {
-    if let Some(least) = context.tables.least_time(transition) {
-        ticks.tick();
-        return Ok(view.time_of(least.step) >= least.micros);
-    }
     let condition = &context.chart.transitions.as_slice()[transition.0 as usize].condition;
-    holds(condition.expr(), view, ticks)
+    context
+        .tables
+        .test(transition)
+        .holds(condition.expr(), view, ticks)
 }
 
 // Whether the transition is enabled and its condition TRUE; that of one that isn't enabled is not evaluated.

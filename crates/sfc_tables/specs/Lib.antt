@@ -4,8 +4,6 @@
 pub mod Ranks
 -- the actions of a chart and their numbers
 pub mod Actions
--- conditions that ask for a least time of a step
-pub mod LeastTimes
 -- the tables of a chart
 pub mod Tables
 -- the names of actions by number, and actions by name

@@ -1,5 +1,5 @@
 -- The tables of a chart (2.6.2 to 2.6.4).
-use Rattle.std.specs.Prelude.{ℕ, suc, ◌≡◌, ◌<◌, ◌≤◌, Bool, List, [], ◌∷◌, ◌++◌, length, map, All, slice_index_or, Option, None}
+use Rattle.std.specs.Prelude.{ℕ, suc, ◌≡◌, ◌<◌, ◌≤◌, Bool, List, [], ◌∷◌, ◌++◌, length, map, All, slice_index_or}
 use Rattle.std.specs.List.Sorted.{IsPermutation}
 use Rattle.sfc_base.specs.declared.limits.TheConstants.{ASSOCIATIONS, STEPS, TRANSITIONS}
 use Rattle.sfc_base.specs.declared.references.StepId.{StepId}
@@ -10,9 +10,10 @@ use Rattle.sfc_plant.specs.declared.chart.Step.{Step}
 use Rattle.sfc_plant.specs.declared.chart.Transition.{Transition}
 use Rattle.sfc_base.specs.declared.ids.TransitionId.{TransitionId}
 use Rattle.sfc_tables.specs.declared.step_action.StepAction.{StepAction}
-use Rattle.sfc_tables.specs.declared.least_time.LeastTime.{LeastTime}
+use Rattle.sfc_expr.specs.declared.test.Test.{Test}
+use Rattle.sfc_expr.specs.declared.test.Test.TheVariants.{Tree}
 use Rattle.sfc_tables.specs.Actions.{actions_of, number_of}
-use Rattle.sfc_tables.specs.LeastTimes.{least_time_of}
+use Rattle.sfc_expr.specs.Tests.{test_of}
 use Rattle.sfc_tables.specs.Ranks.{priorities_of, IsRankOrder, rank_order, transitions_to}
 
 -- the steps before and after a transition, in text order
@@ -27,23 +28,23 @@ sides_of transition = record { preceding = transition.preceding; following = tra
 abbrev pub sides_at : List Sides → TransitionId → Sides
 sides_at sides transition = slice_index_or sides transition.0 record { preceding = []; following = [] }
 
--- What tables show: which steps are initial, the sides of each transition, the least time for which the condition of each asks, if
--- it asks for that alone, the transitions in rank order, the actions by number, and the associations in text order.
+-- What tables show: which steps are initial, the sides of each transition, what the condition of each
+-- asks, the transitions in rank order, the actions by number, and the associations in text order.
 pub record Tabled : Type 0 where
   pub initial : List Bool
   pub sides : List Sides
-  pub least_times : List (Option LeastTime)
+  pub tests : List Test
   pub ranked : List TransitionId
   pub actions : List Target
   pub associations : List StepAction
 
--- the least time for which the condition of a transition asks; none beyond the last
-abbrev pub least_time_at : List (Option LeastTime) → TransitionId → Option LeastTime
-least_time_at times transition = slice_index_or times transition.0 None
+-- what the condition of a transition asks
+abbrev pub test_at : List Test → TransitionId → Test
+test_at tests transition = slice_index_or tests transition.0 Tree
 
 -- of these transitions
-abbrev pub least_times_of : List Transition → List (Option LeastTime)
-least_times_of transitions = map (λ transition. least_time_of transition.condition) transitions
+abbrev pub tests_of : List Transition → List Test
+tests_of transitions = map (λ transition. test_of transition.condition) transitions
 
 -- the associations of a step, with that step
 abbrev pub at_step : StepId → List Association → List (StepId × Association)
@@ -71,7 +72,7 @@ associations_of chart = numbered (actions_of chart) 0 (in_text 0 chart.steps)
 pub record IsTablesOf (chart : Chart) (tables : Tabled) : Type 0 where
   pub initial : tables.initial ≡ map (λ step. step.is_initial) chart.steps
   pub sides : tables.sides ≡ map sides_of chart.transitions
-  pub least_times : tables.least_times ≡ least_times_of chart.transitions
+  pub tests : tables.tests ≡ tests_of chart.transitions
   pub ranked : IsRankOrder (priorities_of chart.transitions) tables.ranked
   pub actions : tables.actions ≡ actions_of chart
   pub associations : tables.associations ≡ associations_of chart
@@ -81,7 +82,7 @@ abbrev pub tables_of : Chart → Tabled
 tables_of chart = record {
   initial = map (λ step. step.is_initial) chart.steps;
   sides = map sides_of chart.transitions;
-  least_times = least_times_of chart.transitions;
+  tests = tests_of chart.transitions;
   ranked = rank_order (priorities_of chart.transitions);
   actions = actions_of chart;
   associations = associations_of chart;

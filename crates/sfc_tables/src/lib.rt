@@ -6,7 +6,6 @@
 //! - `grouped_places`: the places of a list by their groups.
 //! - `groups`: associations in groups of one step or one action.
 //! - `laws`: what holds of the definitions themselves.
-//! - `least_time`: conditions that ask for a least time of a step.
 //! - `links`: the steps before and after each transition.
 //! - `rank`: the order in which transitions are considered.
 //! - `step_action`: an association by numbers.
@@ -20,7 +19,6 @@ mod departures;
 pub mod grouped_places;
 mod groups;
 pub mod laws;
-pub mod least_time;
 mod links;
 mod rank;
 pub mod step_action;

@@ -12,7 +12,7 @@ use std::marker::Model;
 pub struct Tables {
     initial: Vec<bool>,
     links: Links,
-    least_times: Vec<Option<LeastTime>>,
+    tests: Vec<Test>,
     ranked: Vec<TransitionId>,
     blocks: ActionBlocks,
     departures: GroupedPlaces,
@@ -24,7 +24,7 @@ impl Drop for Tables {
         let Tables {
             initial: _,
             links: _,
-            least_times: _,
+            tests: _,
             ranked: _,
             blocks: _,
             departures: _,
@@ -38,10 +38,10 @@ impl Model for Tables {
 
     ghost Value = { Tabled };
 
-    ghost view = { λ tables. tabled tables.initial.items tables.links tables.least_times.items tables.ranked.items
+    ghost view = { λ tables. tabled tables.initial.items tables.links tables.tests.items tables.ranked.items
         tables.blocks };
 
-    ghost invariant = { λ tables. AreKept tables.initial.items tables.links tables.least_times.items tables.ranked.items
+    ghost invariant = { λ tables. AreKept tables.initial.items tables.links tables.tests.items tables.ranked.items
         tables.blocks tables.departures };
 }
 
@@ -53,17 +53,17 @@ ghost use Rattle.sfc_tables.specs.ActionNames.{action_named, numbered_action};
 ghost use Rattle.sfc_tables.specs.Actions.{number_of};
 ghost use Rattle.sfc_plant.specs.Chart.{Counts, IsChart};
 ghost use Rattle.sfc_tables.specs.Departures.{departures};
-ghost use Rattle.sfc_tables.specs.Tables.{sides_at, least_time_at, tables_of, IsTablesOf, AreTables};
+ghost use Rattle.sfc_tables.specs.Tables.{sides_at, test_at, tests_of, tables_of, IsTablesOf, AreTables};
 
 use crate::departures::list_departures;
-use crate::least_time::{LeastTime, list_least_times};
 use crate::rank;
 use crate::step_action::StepAction;
 use sfc_base::case::is_same_word;
 use sfc_base::ids::ActionNumber;
 use sfc_base::references::StepId;
+use sfc_expr::test::Test;
 use sfc_plant::association::Target;
-use sfc_plant::chart::{Chart, Step};
+use sfc_plant::chart::{Chart, Step, Transition};
 use sfc_plant::names::Names;
 use std::alloc::{AllocError, Global};
 
@@ -72,6 +72,16 @@ fn initial_steps(alloc: Global, steps: &[Step]) -> Result<Vec<bool>, AllocError>
     ensures { IfOk result (λ initial. initial.items ≡ map (λ step. step.is_initial) steps.now) }
 {
     steps.iter().map(|step| step.is_initial).collect(alloc)
+}
+
+// What the condition of each of these transitions asks.
+fn list_tests(alloc: Global, transitions: &[Transition]) -> Result<Vec<Test>, AllocError>
+    ensures { IfOk result (λ tests. tests.items ≡ tests_of transitions.now) }
+{
+    transitions
+        .iter()
+        .map(|transition| Test::of(transition.condition.expr()))
+        .collect(alloc)
 }
 
 // Whether an action has this name.
@@ -99,14 +109,14 @@ impl Tables {
     {
         let initial = initial_steps(alloc, chart.steps.as_slice())?;
         let links = Links::build(alloc, chart.transitions.as_slice())?;
-        let least_times = list_least_times(alloc, chart.transitions.as_slice())?;
+        let tests = list_tests(alloc, chart.transitions.as_slice())?;
         let ranked = rank::rank_order(alloc, chart.transitions.as_slice())?;
         let blocks = ActionBlocks::build(alloc, chart)?;
         let departures = list_departures(alloc, initial.len(), &links, &ranked)?;
         Ok(Tables {
             initial,
             links,
-            least_times,
+            tests,
             ranked,
             blocks,
             departures,
@@ -168,12 +178,12 @@ impl Tables {
         self.links.following(transition)
     }
 
-    /// The least time of a step for which the condition of this transition asks, if it asks for that alone (2.6.2, 2.6.3).
-    pub fn least_time(&self, transition: TransitionId) -> Option<LeastTime>
+    /// What the condition of this transition asks (2.6.3).
+    pub fn test(&self, transition: TransitionId) -> &Test
         requires { transition.0 < length self.now.sides }
-        ensures { result ≡ least_time_at self.now.least_times transition }
+        ensures { result.now ≡ test_at self.now.tests transition }
     {
-        self.least_times[transition.0 as usize]
+        &self.tests[transition.0 as usize]
     }
 
     /// All transitions in rank order: those of lower priority numbers first, then those without a number, and each time

@@ -1,8 +1,8 @@
 -- What the associations of a chart show.
-use Rattle.std.specs.Prelude.{◌≡◌, ℕ, Bool, List, length, map, Option}
+use Rattle.std.specs.Prelude.{◌≡◌, ℕ, Bool, List, length, map}
 use Rattle.std.specs.List.{range_with_len}
 use Rattle.sfc_plant.specs.declared.association.Target.{Target}
-use Rattle.sfc_tables.specs.declared.least_time.LeastTime.{LeastTime}
+use Rattle.sfc_expr.specs.declared.test.Test.{Test}
 use Rattle.sfc_tables.specs.declared.step_action.StepAction.{StepAction}
 use Rattle.sfc_base.specs.declared.ids.TransitionId.{TransitionId}
 use Rattle.sfc_tables.specs.Departures.{departures}
@@ -23,20 +23,20 @@ pub record IsGrouped (blocks : Blocks) (step_starts : List ℕ) (members : List 
   pub by_action : IsGrouping (λ association. association.action.0) (length blocks.actions) blocks.associations members action_starts
 
 -- what tables show of these parts
-abbrev pub tabled : List Bool → List Sides → List (Option LeastTime) → List TransitionId → Blocks → Tabled
-tabled initial sides least_times ranked blocks = record {
+abbrev pub tabled : List Bool → List Sides → List Test → List TransitionId → Blocks → Tabled
+tabled initial sides tests ranked blocks = record {
   initial = initial;
   sides = sides;
-  least_times = least_times;
+  tests = tests;
   ranked = ranked;
   actions = blocks.actions;
   associations = blocks.associations;
 }
 
 -- the parts are tables of one chart
-pub record AreKept (initial : List Bool) (sides : List Sides) (least_times : List (Option LeastTime)) (ranked : List TransitionId)
+pub record AreKept (initial : List Bool) (sides : List Sides) (tests : List Test) (ranked : List TransitionId)
     (blocks : Blocks) (lists : List (List ℕ)) : Type 0 where
-  pub tables : AreTables (tabled initial sides least_times ranked blocks)
-  pub same_times : length least_times ≡ length sides
+  pub tables : AreTables (tabled initial sides tests ranked blocks)
+  pub same_tests : length tests ≡ length sides
   pub steps : blocks.steps ≡ length initial
-  pub places : lists ≡ map (departures (tabled initial sides least_times ranked blocks)) (range_with_len 0 (length initial))
+  pub places : lists ≡ map (departures (tabled initial sides tests ranked blocks)) (range_with_len 0 (length initial))

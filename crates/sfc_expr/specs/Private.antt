@@ -1,4 +1,0 @@
--- What private clauses cite.
-
--- numbers in an order
-pub mod Orders
