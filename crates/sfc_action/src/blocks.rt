@@ -148,11 +148,11 @@ pub fn step_live(
     ensures ticks { Within (2 * length blocks.old) ticks.old ticks.new }
 {
     let mut are_idle = true;
-    let mut at = 0;
-    'live: while let Some(place) = live.next_set(at, ticks) {
+    let mut walk = live.start();
+    'live: while let Some((place, next)) = live.next(walk, ticks) {
         step_block(&mut blocks[place], call, ticks);
         are_idle &= !note(live, elapsed, place, &blocks[place]);
-        at = place + 1;
+        walk = next;
     }
     are_idle
 }

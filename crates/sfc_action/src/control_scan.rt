@@ -113,11 +113,6 @@ impl ControlScan {
         ensures uncalled { result.is_called ≡ false → (a : ℕ) → flag self.new.called a ≡ false }
         ensures ticks { Within (length self.old.called) ticks.old ticks.new }
     {
-        // One word, as up to 64 actions have, without a loop.
-        if self.called.words() == 1 {
-            ticks.tick();
-            return self.settle_word(stored, 0);
-        }
         let mut settled = Settled::of_none();
         for number in 0..self.called.words() {
             ticks.tick();

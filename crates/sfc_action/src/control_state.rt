@@ -120,9 +120,8 @@ impl ControlState {
         self.notes.executed.put_word(number, words.executed);
     }
 
-    // The same of the 64 actions of each word.
-    #[inline(never)]
-    fn act_each(&mut self, control_scan: &ControlScan, ticks: &mut Ticks)
+    // What a scan makes of all actions, where the on-delays are done, in place of what is noted of them.
+    fn act_all(&mut self, control_scan: &ControlScan, ticks: &mut Ticks)
         requires sized { IsStateSized (length self.old.q) self.old }
         requires control_scan { IsControlScan (length self.old.q) control_scan.now }
         ensures sized { IsStateSized (length self.old.q) self.new }
@@ -134,24 +133,6 @@ impl ControlState {
             ticks.tick();
             self.act_word(control_scan, number);
         }
-    }
-
-    // What a scan makes of all actions, where the on-delays are done, in place of what is noted of them.
-    fn act_all(&mut self, control_scan: &ControlScan, ticks: &mut Ticks)
-        requires sized { IsStateSized (length self.old.q) self.old }
-        requires control_scan { IsControlScan (length self.old.q) control_scan.now }
-        ensures sized { IsStateSized (length self.old.q) self.new }
-        ensures same { AreSame self.old self.new }
-        ensures rows { (a : ℕ) → noted_row self.new a ≡ state_row_after control_scan.now (state_row self.old) a }
-        ensures ticks { Within (length self.old.q) ticks.old ticks.new }
-    {
-        // One word, as up to 64 actions have, without a loop.
-        if self.q.words() == 1 {
-            ticks.tick();
-            self.act_word(control_scan, 0);
-            return;
-        }
-        self.act_each(control_scan, ticks);
     }
 
     // What is kept of the actions and what is noted of them change places.

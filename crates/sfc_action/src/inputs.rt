@@ -43,9 +43,8 @@ use sfc_base::qualifier::TimedQualifier;
 use sfc_base::ticks::Ticks;
 use std::alloc::{AllocError, Global};
 
-// None of the actions of these words has an input. It stands apart, so that a chart of one word has no loop in its scan.
-#[inline(never)]
-fn clear_each(words: &mut [InputWords], ticks: &mut Ticks)
+// None of the actions of these words has an input.
+fn clear_words(words: &mut [InputWords], ticks: &mut Ticks)
     ensures len { length words.new ≡ length words.old }
     ensures clear { All (λ word. (a : ℕ) → inputs_in word a ≡ no_inputs) words.new }
     ensures ticks { Within (length words.old) ticks.old ticks.new }
@@ -54,20 +53,6 @@ fn clear_each(words: &mut [InputWords], ticks: &mut Ticks)
         ticks.tick();
         words[number] = InputWords::none();
     }
-}
-
-// The same, and one word, as up to 64 actions have, without a loop.
-fn clear_words(words: &mut [InputWords], ticks: &mut Ticks)
-    ensures len { length words.new ≡ length words.old }
-    ensures clear { All (λ word. (a : ℕ) → inputs_in word a ≡ no_inputs) words.new }
-    ensures ticks { Within (length words.old) ticks.old ticks.new }
-{
-    if words.len() == 1 {
-        ticks.tick();
-        words[0] = InputWords::none();
-        return;
-    }
-    clear_each(words, ticks);
 }
 
 impl Inputs {

@@ -74,94 +74,6 @@ fn note_all(
     }
 }
 
-// The steps of a word, by its number: the tables of their chart, and which of its steps are active.
-#[derive(Clone, Copy)]
-struct WordOfSteps<'a> {
-    tables: &'a Tables,
-    active: &'a Flags,
-    number: usize,
-}
-
-// The associations of the active steps of this word act.
-#[inline(always)]
-fn mark_word(
-    inputs: &mut Inputs,
-    presets: &mut [i64],
-    word: WordOfSteps<'_>,
-    associations: Associations<'_>,
-    ticks: &mut Ticks,
-)
-    requires tables { AreTables word.tables.now }
-    requires sized { AreSized (length presets.old) inputs.old }
-    requires actions { length presets.old ≡ length word.tables.now.actions }
-    requires steps { length word.active.now ≡ length word.tables.now.initial }
-    requires number { word.number < word_count word.active.now }
-    requires step_inputs { AreInputsOf word.tables.now associations.step_inputs.now }
-    requires times { length associations.times.now ≡ length word.tables.now.associations }
-    ensures sized { AreSized (length presets.old) inputs.new }
-    ensures inputs { marked_at word.entry.tables.now.associations (places_from word.entry.active.now ((word.entry.number + 1) * 64)) inputs.new
-        ≡ marked_at word.entry.tables.now.associations (places_from word.entry.active.now (word.entry.number * 64)) inputs.old }
-    ensures presets { presets_at associations.entry.times.now word.entry.tables.now.associations
-        (places_from word.entry.active.now ((word.entry.number + 1) * 64)) presets.new
-        ≡ presets_at associations.entry.times.now word.entry.tables.now.associations
-        (places_from word.entry.active.now (word.entry.number * 64)) presets.old }
-    ensures rises { ticks.old.count ≤ ticks.new.count }
-    ensures ticks { ticks.new.count + work_from word.entry.tables.now.associations word.entry.active.now ((word.entry.number + 1) * 64)
-        ≤ ticks.old.count + work_from word.entry.tables.now.associations word.entry.active.now (word.entry.number * 64) }
-{
-    let mut left = word.active.word(word.number);
-    if left.is_none() {
-        ticks.tick();
-        return;
-    }
-    let step_inputs = associations.step_inputs;
-    'active: while let Some((place, rest)) = left.split_first() {
-        let s = word.number * 64 + place;
-        ticks.tick();
-        join_all(inputs, step_inputs.plain(s), ticks);
-        note_all(
-            inputs,
-            presets,
-            step_inputs.timed(s),
-            associations.times,
-            ticks,
-        );
-        left = rest;
-    }
-}
-
-// The associations of the active steps act, word by word.
-#[inline(never)]
-fn mark_words(
-    inputs: &mut Inputs,
-    presets: &mut [i64],
-    tables: &Tables,
-    active: &Flags,
-    associations: Associations<'_>,
-    ticks: &mut Ticks,
-)
-    requires tables { AreTables tables.now }
-    requires sized { AreSized (length presets.old) inputs.old }
-    requires actions { length presets.old ≡ length tables.now.actions }
-    requires steps { length active.now ≡ length tables.now.initial }
-    requires step_inputs { AreInputsOf tables.now associations.step_inputs.now }
-    requires times { length associations.times.now ≡ length tables.now.associations }
-    ensures sized { AreSized (length presets.old) inputs.new }
-    ensures inputs { inputs.new ≡ marked_at tables.now.associations (places_from active.now 0) inputs.old }
-    ensures presets { presets.new
-        ≡ presets_at associations.entry.times.now tables.now.associations (places_from active.now 0) presets.old }
-    ensures ticks { Within (length active.now + length tables.now.associations) ticks.old ticks.new }
-{
-    for number in 0..active.words() {
-        let word = WordOfSteps {
-            tables,
-            active,
-            number,
-        };
-        mark_word(inputs, presets, word, associations, ticks);
-    }
-}
-
 /// The associations of the active steps act: their actions get the inputs of their qualifiers, and the preset of each is
 /// the time of its last one that has a time.
 pub fn mark_active(
@@ -184,15 +96,17 @@ pub fn mark_active(
         ≡ presets_at associations.entry.times.now tables.now.associations (places_from active.now 0) presets.old }
     ensures ticks { Within (length active.now + length tables.now.associations) ticks.old ticks.new }
 {
-    // One word, as up to 64 steps have, without a loop.
-    if active.words() == 1 {
-        let word = WordOfSteps {
-            tables,
-            active,
-            number: 0,
-        };
-        mark_word(inputs, presets, word, associations, ticks);
-        return;
+    let step_inputs = associations.step_inputs;
+    let mut walk = active.start();
+    'active: while let Some((s, next)) = active.next(walk, ticks) {
+        join_all(inputs, step_inputs.plain(s), ticks);
+        note_all(
+            inputs,
+            presets,
+            step_inputs.timed(s),
+            associations.times,
+            ticks,
+        );
+        walk = next;
     }
-    mark_words(inputs, presets, tables, active, associations, ticks);
 }

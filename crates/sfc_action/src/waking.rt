@@ -32,10 +32,10 @@ pub fn wake(live: &mut Flags, places: &GroupedPlaces, called: &Flags, ticks: &mu
     ensures awake { (a k : ℕ) → k < length live.old → flag called.now a ≡ true → has_place places.now a k ≡ true → flag live.new k ≡ true }
     ensures ticks { Within (length called.now) ticks.old ticks.new }
 {
-    let mut at = 0;
-    'called: while let Some(action) = called.next_set(at, ticks) {
+    let mut walk = called.start();
+    'called: while let Some((action, next)) = called.next(walk, ticks) {
         set_all(live, places.of_group(action));
-        at = action + 1;
+        walk = next;
     }
 }
 
@@ -48,9 +48,9 @@ pub fn copy_flagged(blocks: &mut [Block], from: &[Block], flags: &Flags, ticks: 
     ensures kept { (k : ℕ) (d : Block) → flag flags.now k ≡ false → slice_index_or blocks.new k d ≡ slice_index_or blocks.old k d }
     ensures ticks { Within (length blocks.old) ticks.old ticks.new }
 {
-    let mut at = 0;
-    'flagged: while let Some(place) = flags.next_set(at, ticks) {
+    let mut walk = flags.start();
+    'flagged: while let Some((place, next)) = flags.next(walk, ticks) {
         blocks[place] = from[place];
-        at = place + 1;
+        walk = next;
     }
 }

@@ -67,12 +67,12 @@ pub fn clear_in_order(
         flags,
     } = candidates;
     let ranked = tables.ranked();
-    let mut at = 0;
-    'candidates: while let Some(j) = flags.next_set(at, ticks) {
+    let mut walk = flags.start();
+    'candidates: while let Some((j, next)) = flags.next(walk, ticks) {
         let tr = ranked[j];
         let preceding = tables.preceding(tr);
         let clears = clear_one(preceding, conditions[tr.0 as usize], active, ticks);
         cleared.set(tr.0 as usize, clears);
-        at = j + 1;
+        walk = next;
     }
 }

@@ -47,11 +47,11 @@ pub fn move_on(
     ensures ticks { Within (moving_work scan.entry.tables.now.sides) ticks.old ticks.new }
 {
     let Cleared { tables, flags, t } = scan;
-    let mut at = 0;
-    'cleared: while let Some(tr) = flags.next_set(at, ticks) {
+    let mut walk = flags.start();
+    'cleared: while let Some((tr, next)) = flags.next(walk, ticks) {
         let transition = TransitionId(tr as u16);
         leave(held_times, since, tables.preceding(transition), t, ticks);
         mark(on, tables.following(transition), ticks);
-        at = tr + 1;
+        walk = next;
     }
 }

@@ -26,24 +26,6 @@ fn set_places(flags: &mut Flags, places: &[usize], ticks: &mut Ticks)
     }
 }
 
-// Proposes the transitions whose first preceding step is active, where one word has all steps.
-fn propose_word(tables: &Tables, active: &Flags, candidates: &mut Flags, ticks: &mut Ticks)
-    requires tables { AreTables tables.now }
-    requires one { word_count active.now ≡ 1 }
-    requires active_len { length active.now ≡ length tables.now.initial }
-    requires candidates_len { length candidates.old ≡ length tables.now.sides }
-    ensures flags { candidates.new ≡ proposed_by tables.now (places_from active.now 0) candidates.old }
-    ensures len { length candidates.new ≡ length candidates.old }
-    ensures ticks { Within (1 + length tables.now.sides) ticks.old ticks.new }
-{
-    ticks.tick();
-    let mut left = active.word(0);
-    'steps: while let Some((s, rest)) = left.split_first() {
-        set_places(candidates, tables.departures(StepId(s as u16)), ticks);
-        left = rest;
-    }
-}
-
 /// Proposes, by place in rank order, the transitions whose first preceding step is active, and no others.
 #[inline(always)]
 pub fn propose(tables: &Tables, active: &Flags, candidates: &mut Flags, ticks: &mut Ticks)
@@ -56,14 +38,9 @@ pub fn propose(tables: &Tables, active: &Flags, candidates: &mut Flags, ticks: &
     ensures ticks { Within (length tables.now.initial + 2 * length tables.now.sides) ticks.old ticks.new }
 {
     candidates.clear_all(ticks);
-    // One word, as up to 64 steps have, is walked by itself.
-    if active.words() == 1 {
-        propose_word(tables, active, candidates, ticks);
-        return;
-    }
-    let mut at = 0;
-    'steps: while let Some(s) = active.next_set(at, ticks) {
+    let mut walk = active.start();
+    'steps: while let Some((s, next)) = active.next(walk, ticks) {
         set_places(candidates, tables.departures(StepId(s as u16)), ticks);
-        at = s + 1;
+        walk = next;
     }
 }

@@ -61,12 +61,12 @@ pub fn begin(
     ensures ticks { Within (length activated.entry.flags.now) ticks.old ticks.new }
 {
     let Activated { flags, t } = activated;
-    let mut at = 0;
-    'places: while let Some(s) = flags.next_set(at, ticks) {
+    let mut walk = flags.start();
+    'places: while let Some((s, next)) = flags.next(walk, ticks) {
         active.set(s, true);
         noted[s] = since[s];
         since[s] = t;
-        at = s + 1;
+        walk = next;
     }
 }
 
@@ -80,9 +80,9 @@ pub fn take_back(since: &mut [i64], noted: &[i64], activated: &Flags, ticks: &mu
     ensures instants { AreInstants since.new }
     ensures ticks { Within (length activated.now) ticks.old ticks.new }
 {
-    let mut at = 0;
-    'places: while let Some(s) = activated.next_set(at, ticks) {
+    let mut walk = activated.start();
+    'places: while let Some((s, next)) = activated.next(walk, ticks) {
         since[s] = noted[s];
-        at = s + 1;
+        walk = next;
     }
 }

@@ -2,10 +2,10 @@
 
 ghost use Rattle.std.specs.Prelude.{◌≡◌, ◌≢◌, ◌==◌, ◌<◌, ◌≤◌, ◌^◌, ◌||◌, ◌&&◌, ◌↔◌, ◌∷◌, ◌+◌, ◌-◌, [], ℕ, List, Bool, not, true, false, cond, length, replicate, slice_set, IfOk, IfSome, None};
 ghost use Rattle.sfc_base.specs.Ticks.{Within};
-ghost use Rattle.sfc_flags.specs.Cursors.{StandsAt};
+ghost use Rattle.sfc_flags.specs.Cursors.{StandsAt, place_of};
 ghost use Rattle.sfc_flags.specs.Flags.{flag, places_from, places_passed};
 ghost use Rattle.sfc_flags.specs.Words.{has, word_count, word_of};
-ghost use Rattle.sfc_flags.specs.Private.Bits.{flags_of, IsFlags};
+ghost use Rattle.sfc_flags.specs.Private.Bits.{flags_of, IsTable};
 
 use crate::cursor::Cursor;
 use crate::word::Word;
@@ -19,19 +19,13 @@ use std::marker::Model;
 /// Work by words counts a tick for each word of 64 flags, which is told as at most one for each place.
 pub struct Flags {
     count: usize,
-    // the places, where one word has them all; else 0
-    single: usize,
     words: Vec<u64>,
 }
 
 // By hand, so that a caller that drops one proves one call.
 impl Drop for Flags {
     fn drop(self) {
-        let Flags {
-            count: _,
-            single: _,
-            words: _,
-        } = self;
+        let Flags { count: _, words: _ } = self;
     }
 }
 
@@ -40,7 +34,7 @@ impl Model for Flags {
 
     ghost view = { λ f. flags_of f.count f.words.items };
 
-    ghost invariant = { λ f. IsFlags f.count f.single f.words.items };
+    ghost invariant = { λ f. IsTable f.count f.words.items };
 }
 
 impl Flags {
@@ -50,15 +44,8 @@ impl Flags {
     {
         Ok(Flags {
             count,
-            single: if count <= 64 { count } else { 0 },
             words: vec![in alloc; 0; count.div_ceil(64)]?,
         })
-    }
-
-    /// Whether one word has all places, and this is one of them.
-    #[inline(always)]
-    pub(crate) fn has_in_one(&self, place: usize) -> bool {
-        place < self.single
     }
 
     /// The number of places.
@@ -114,11 +101,7 @@ impl Flags {
         ensures flags { self.new ≡ replicate (length self.old) false }
         ensures ticks { Within (length self.old) ticks.old ticks.new }
     {
-        if self.single > 0 {
-            words::clear_one(&mut self.words, ticks);
-        } else {
-            words::clear(&mut self.words, ticks);
-        }
+        words::clear(&mut self.words, ticks);
     }
 
     /// Takes over the other's flags.
@@ -161,9 +144,6 @@ impl Flags {
         ensures len { length self.now < 2 ^ 64 }
         ensures ticks { Within (places_passed (length self.now) from result) ticks.old ticks.new }
     {
-        if from < self.single {
-            return words::next_in_one(&self.words, from, ticks);
-        }
         let count = self.count;
         if from < count {
             words::next(&self.words, from, ticks)
@@ -185,12 +165,14 @@ impl Flags {
         Cursor { base: 0, rest }
     }
 
-    /// The next set place of a walk, and where the walk stands then.
+    /// The next set place of a walk, and where the walk stands then. A walk makes at most a tick for each place of the table.
     #[inline(always)]
-    pub fn next(&self, cursor: Cursor) -> Option<(usize, Cursor)>
+    pub fn next(&self, cursor: Cursor, ticks: &mut Ticks) -> Option<(usize, Cursor)>
         ensures some { (from : ℕ) → StandsAt self.now from cursor → IfSome result (λ p. (p.0 < length self.now) × (flag self.now p.0 ≡ true)
             × (places_from self.now from ≡ p.0 ∷ places_from self.now (p.0 + 1)) × StandsAt self.now (p.0 + 1) p.1) }
         ensures none { (from : ℕ) → StandsAt self.now from cursor → result ≡ None → places_from self.now from ≡ [] }
+        ensures ticks { (from : ℕ) → StandsAt self.now from cursor →
+            Within (places_passed (length self.now) from (place_of result)) ticks.old ticks.new }
     {
         let count = self.count;
         let mut at = cursor;
@@ -199,6 +181,7 @@ impl Flags {
             if base >= count {
                 return None;
             }
+            ticks.tick();
             at = Cursor {
                 base,
                 rest: self.word(base / 64),
@@ -221,9 +204,6 @@ impl Flags {
         ensures len { length self.now < 2 ^ 64 }
         ensures ticks { Within (places_passed (length self.now) from result) ticks.old ticks.new }
     {
-        if from < self.single {
-            return words::next_difference_in_one(&self.words, &other.words, from, ticks);
-        }
         let count = self.count;
         if from < count {
             words::next_difference(&self.words, &other.words, from, ticks)

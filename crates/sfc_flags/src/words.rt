@@ -69,26 +69,11 @@ pub fn are_same(words: &[u64], other: &[u64]) -> bool
     requires { length other.now ≡ length words.now }
     ensures { (result ≡ true) ↔ ((j : ℕ) → bit words.now j ≡ bit other.now j) }
 {
-    // One word, as up to 64 places have, without a loop.
-    if words.len() == 1 {
-        return words[0] == other[0];
-    }
     let mut apart = 0;
     for k in 0..words.len() {
         apart |= words[k] ^ other[k];
     }
     apart == 0
-}
-
-/// Clears all bits of one word.
-pub fn clear_one(words: &mut [u64], ticks: &mut Ticks)
-    requires { length words.old ≡ 1 }
-    ensures len { length words.new ≡ length words.old }
-    ensures bits { (j : ℕ) → bit words.new j ≡ false }
-    ensures ticks { Within (length words.old) ticks.old ticks.new }
-{
-    words[0] = 0;
-    ticks.tick();
 }
 
 /// Clears all bits.
@@ -97,26 +82,15 @@ pub fn clear(words: &mut [u64], ticks: &mut Ticks)
     ensures bits { (j : ℕ) → bit words.new j ≡ false }
     ensures ticks { Within (length words.old) ticks.old ticks.new }
 {
+    // One word, as up to 64 places have, without a loop.
+    if words.len() == 1 {
+        words[0] = 0;
+        ticks.tick();
+        return;
+    }
     for k in 0..words.len() {
         words[k] = 0;
         ticks.tick();
-    }
-}
-
-/// The first set place from `from` on, where there is one word.
-pub fn next_in_one(words: &[u64], from: usize, ticks: &mut Ticks) -> Option<usize>
-    requires one { length words.now ≡ 1 }
-    requires within { from < 64 }
-    ensures some { IfSome result (λ i. IsNext words.now from i) }
-    ensures none { result ≡ None → (j : ℕ) → from ≤ j → bit words.now j ≡ false }
-    ensures ticks { Within (words_passed words.now from result) ticks.old ticks.new }
-{
-    ticks.tick();
-    let rest = words[0] >> from;
-    if rest != 0 {
-        Some(from + rest.trailing_zeros() as usize)
-    } else {
-        None
     }
 }
 
@@ -158,29 +132,6 @@ fn first_word(words: &[u64], start: usize, ticks: &mut Ticks) -> usize
         k += 1;
     }
     k
-}
-
-/// The first place from `from` on at which the bits of the two differ, where each has one word.
-pub fn next_difference_in_one(
-    words: &[u64],
-    other: &[u64],
-    from: usize,
-    ticks: &mut Ticks,
-) -> Option<usize>
-    requires one { length words.now ≡ 1 }
-    requires len { length other.now ≡ length words.now }
-    requires within { from < 64 }
-    ensures some { IfSome result (λ i. IsNext (apart words.now other.now) from i) }
-    ensures none { result ≡ None → (j : ℕ) → from ≤ j → bit (apart words.now other.now) j ≡ false }
-    ensures ticks { Within (words_passed (apart words.now other.now) from result) ticks.old ticks.new }
-{
-    ticks.tick();
-    let differing = difference(words, other, 0) >> from;
-    if differing != 0 {
-        Some(from + differing.trailing_zeros() as usize)
-    } else {
-        None
-    }
 }
 
 /// The first place from `from` on at which the bits of the two differ.

@@ -111,14 +111,14 @@ pub fn evaluate_all<V: View>(
     let ranked = context.tables.ranked();
     let candidates = steps.candidates();
     let mut holding = Holding::Nothing;
-    let mut at = 0;
-    'candidates: while let Some(j) = candidates.next_set(at, ticks) {
+    let mut walk = candidates.start();
+    'candidates: while let Some((j, next)) = candidates.next(walk, ticks) {
         let transition = ranked[j];
         if evaluate(context, steps, view, transition, ticks)? {
             conditions[transition.0 as usize] = true;
             holding = holding.with(transition);
         }
-        at = j + 1;
+        walk = next;
     }
     Ok(holding)
 }

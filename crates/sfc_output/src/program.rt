@@ -81,11 +81,12 @@ fn put_steps(
 {
     let _steps = view.tables().steps();
     let active = view.active_flags();
+    let mut ticks = Ticks::new();
     let mut cursor = active.start();
     let mut from = 0;
     let mut steps = 0usize;
     let mut elapsed = 0;
-    'places: while let Some((s, next)) = active.next(cursor) {
+    'places: while let Some((s, next)) = active.next(cursor, &mut ticks) {
         elapsed = put_step(line, out, view, names, (from == 0, StepId(s as u16)))?;
         steps = steps.wrapping_mul(8).wrapping_add(s);
         from = s + 1;
@@ -111,11 +112,11 @@ fn put_cleared(line: &mut Line, out: &mut Vec<u8>, cleared: &Flags) -> Result<()
 {
     let mut ticks = Ticks::new();
     let mut is_first = true;
-    let mut from = 0;
-    'places: while let Some(tr) = cleared.next_set(from, &mut ticks) {
+    let mut walk = cleared.start();
+    'places: while let Some((tr, next)) = cleared.next(walk, &mut ticks) {
         put_next_number(line, out, is_first, number_of(tr))?;
         is_first = false;
-        from = tr + 1;
+        walk = next;
     }
     put_end(line, out, is_first)
 }
@@ -135,12 +136,12 @@ fn put_executed(
 {
     let mut ticks = Ticks::new();
     let mut is_first = true;
-    let mut from = 0;
-    'places: while let Some(action) = executed.next_set(from, &mut ticks) {
+    let mut walk = executed.start();
+    'places: while let Some((action, next)) = executed.next(walk, &mut ticks) {
         let target = tables.target(ActionNumber(action));
         put_next(line, out, is_first, names.target(target))?;
         is_first = false;
-        from = action + 1;
+        walk = next;
     }
     put_end(line, out, is_first)
 }

@@ -21,12 +21,6 @@ pub record IsTable (n : ℕ) (words : List ℕ) : Type 0 where
   pub sized : length words ≡ div_ceil n 64
   pub blank : (i : ℕ) → n ≤ i → bit words i ≡ false
 
--- the table of n places, and how many they are where one word has them all
-pub record IsFlags (n single : ℕ) (words : List ℕ) : Type 0 where
-  pub table : IsTable n words
-  pub within : single ≤ n
-  pub alone : 0 < single → n ≤ 64
-
 -- place i is the first set one from place `from` on
 pub record IsNext (words : List ℕ) (from i : ℕ) : Type 0 where
   pub after : from ≤ i
