@@ -1,10 +1,10 @@
 //! What a scan of action control knows of the associations.
 
-use crate::step_inputs::StepInputs;
+use crate::control_tables::ControlTables;
 
-/// The time of each association, by number, and what those of each step give as inputs.
+/// The time of each association, by number, and what action control needs of the chart.
 #[derive(Clone, Copy)]
 pub struct Associations<'a> {
     pub times: &'a [i64],
-    pub step_inputs: &'a StepInputs,
+    pub tables: &'a ControlTables,
 }

@@ -135,7 +135,7 @@ impl ControlScan {
         requires sized { IsControlScan (length tables.now.actions) self.old }
         requires stored { IsKept (length tables.now.actions) stored.now }
         requires steps { length active.now ≡ length tables.now.initial }
-        requires step_inputs { AreInputsOf tables.now associations.step_inputs.now }
+        requires step_inputs { AreInputsOf tables.now associations.tables.now.step_inputs }
         requires times { length associations.times.now ≡ length tables.now.associations }
         ensures sized { IsControlScan (length tables.now.actions) self.new }
         ensures inputs { self.new.inputs

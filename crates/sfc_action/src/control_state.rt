@@ -2,7 +2,7 @@
 
 use crate::blocks::Block;
 use crate::control_scan::ControlScan;
-use crate::delays::Delays;
+use crate::delays::{DelayScan, Delays};
 use crate::kept::Kept;
 use crate::notes::ControlNotes;
 use crate::state_words::StateWords;
@@ -11,14 +11,12 @@ use sfc_flags::flags::Flags;
 use std::alloc::{AllocError, Global};
 
 /// Of each action the inputs P, P1 and P0 of the newest scan, its flip-flops, its Q and whether it was executed, and the
-/// on-delays of all; and what the newest scan changed, so that it can be undone. `is_single` tells that no action has two associations by
-/// SD or SL.
+/// on-delays of all; and what the newest scan changed, so that it can be undone.
 pub struct ControlState {
     pub kept: Kept,
     pub q: Flags,
     pub executed: Flags,
     pub blocks: Delays,
-    pub is_single: bool,
     pub notes: ControlNotes,
 }
 
@@ -30,7 +28,6 @@ impl Drop for ControlState {
             q: _,
             executed: _,
             blocks: _,
-            is_single: _,
             notes: _,
         } = self;
     }
@@ -48,31 +45,24 @@ impl ControlState {
     ghost use Rattle.sfc_action.specs.Private.Calling.{AreCalled};
     ghost use Rattle.sfc_action.specs.Private.Keeping.{IsStateSized, IsFresh, IsActed, IsCopy, delay_of};
     ghost use Rattle.sfc_action.specs.Private.Resting.{IsAtRest, IsRested};
+    ghost use Rattle.sfc_action.specs.Private.Live.{AreListed};
     ghost use Rattle.sfc_action.specs.Private.Resetting.{IsReset};
     ghost use Rattle.sfc_action.specs.Private.Noting.{AreSame, IsNoted, noted_row, turned_over};
     ghost use Rattle.sfc_action.specs.declared.control_state.ControlState.{ControlState};
     ghost use Rattle.sfc_action.specs.Private.Rows.{state_in, state_row, nothing, state_row_after};
 
     /// Before the first scan of a life, with these on-delays. The one error is that memory was refused.
-    pub fn new(
-        alloc: Global,
-        actions: usize,
-        blocks: Vec<Block>,
-        is_single: bool,
-    ) -> Result<Self, AllocError>
-        requires actions { AreOf actions blocks.items }
-        requires fresh { All IsNew blocks.items }
-        ensures { IfOk result (λ state. IsFresh actions blocks.items is_single state) }
+    pub fn new(alloc: Global, actions: usize, blocks: &[Block]) -> Result<Self, AllocError>
+        requires actions { AreOf actions blocks.now }
+        requires fresh { All IsNew blocks.now }
+        ensures { IfOk result (λ state. IsFresh actions blocks.now state) }
     {
-        let notes = ControlNotes::new(alloc, actions, &blocks)?;
-        let blocks = Delays::new(alloc, actions, blocks)?;
         Ok(ControlState {
             kept: Kept::new(alloc, actions)?,
             q: Flags::new(alloc, actions)?,
             executed: Flags::new(alloc, actions)?,
-            blocks,
-            is_single,
-            notes,
+            blocks: Delays::new(alloc, blocks)?,
+            notes: ControlNotes::new(alloc, actions, blocks)?,
         })
     }
 
@@ -96,7 +86,6 @@ impl ControlState {
         requires past { (a : ℕ) → word_of a ≡ number → length self.old.q ≤ a → state_in words a ≡ nothing }
         ensures sized { IsStateSized (length self.old.q) self.new }
         ensures blocks { self.new.blocks ≡ self.old.blocks }
-        ensures single { self.new.is_single ≡ self.old.is_single }
         ensures put { ArePut number (state_in words) (state_row self.old) (state_row self.new) }
     {
         self.kept.put(number, words.kept);
@@ -149,18 +138,19 @@ impl ControlState {
         &mut self,
         control_scan: &mut ControlScan,
         is_called: bool,
-        t: i64,
+        scan: DelayScan<'_>,
         ticks: &mut Ticks,
     )
         requires sized { IsStateSized (length self.old.q) self.old }
+        requires places { AreListed self.old.blocks scan.places.now }
         requires control_scan { IsControlScan (length self.old.q) control_scan.old }
         requires called { AreCalled control_scan.old.inputs control_scan.old.stores control_scan.old.called }
         requires uncalled { is_called ≡ false → (a : ℕ) → flag control_scan.old.called a ≡ false }
         requires elapsed { control_scan.old.elapsed ≡ none (length self.old.q) }
-        requires low { pos 0 ≤ℤ t }
-        requires high { t ≤ℤ pos (2 ^ 62) }
+        requires low { pos 0 ≤ℤ scan.t }
+        requires high { scan.t ≤ℤ pos (2 ^ 62) }
         ensures control_scan { IsControlScan (length self.old.q) control_scan.new }
-        ensures acted { IsActed control_scan.old.inputs control_scan.old.stores control_scan.old.presets.items t self.old self.new }
+        ensures acted { IsActed control_scan.old.inputs control_scan.old.stores control_scan.old.presets.items scan.entry.t self.old self.new }
         ensures noted { IsNoted self.old self.new }
         ensures ticks { Within (2 * length self.old.q + 4 * length self.old.blocks) ticks.old ticks.new }
     {
@@ -169,7 +159,7 @@ impl ControlState {
         // Idle on-delays stay as they are without their input.
         if is_called || !self.blocks.are_idle() {
             self.blocks
-                .step(control_scan, &mut self.notes.delays, t, ticks);
+                .step(control_scan, &mut self.notes.delays, scan, ticks);
         }
         self.act_all(control_scan, ticks);
         self.turn_over();
@@ -199,7 +189,7 @@ impl ControlState {
         ensures rest { result ≡ true → IsAtRest self.now }
         ensures ticks { Within (length self.now.q) ticks.old ticks.new }
     {
-        self.is_single && self.blocks.are_idle() && self.are_pulses_over(ticks)
+        self.blocks.are_idle() && self.are_pulses_over(ticks)
     }
 
     /// What such a scan makes of all: the actions with Q are executed.
@@ -235,7 +225,6 @@ impl ControlState {
         requires other { IsStateSized (length self.old.q) other.now }
         ensures sized { IsStateSized (length self.old.q) self.new }
         ensures blocks { self.new.blocks ≡ self.old.blocks }
-        ensures single { self.new.is_single ≡ self.old.is_single }
         ensures rows { (a : ℕ) → state_row self.new a ≡ state_row other.now a }
         ensures ticks { Within (length self.old.q) ticks.old ticks.new }
     {
@@ -250,7 +239,6 @@ impl ControlState {
         requires sized { IsStateSized (length self.old.q) self.old }
         ensures sized { IsStateSized (length self.old.q) self.new }
         ensures blocks { self.new.blocks ≡ self.old.blocks }
-        ensures single { self.new.is_single ≡ self.old.is_single }
         ensures rows { (a : ℕ) → state_row self.new a ≡ nothing }
         ensures ticks { Within (length self.old.q) ticks.old ticks.new }
     {
@@ -278,7 +266,6 @@ impl ControlState {
         ensures copy { IsCopy other.now self.new }
         ensures ticks { Within (length self.old.q + length self.old.blocks) ticks.old ticks.new }
     {
-        self.is_single = other.is_single;
         self.copy_all(other, ticks);
         self.blocks.copy_from(&other.blocks, ticks);
     }

@@ -42,14 +42,13 @@ ghost use Rattle.sfc_evolve.specs.Evolution as evolution;
 ghost use Rattle.sfc_evolve.specs.Agreement.{StepsAgree, step_total};
 ghost use Rattle.sfc_action.specs.ActionControl.{Scan, q, executed, first_fault};
 ghost use Rattle.sfc_action.specs.Work.{step_work, copy_work};
-ghost use Rattle.sfc_action.specs.Agreement.{IsFor, AreInputsOf, ControlsAgree, ControlsNoted, action_total, scan_input};
+ghost use Rattle.sfc_action.specs.Agreement.{IsFor, AreControlTablesOf, ControlsAgree, ControlsNoted, action_total, scan_input};
 
 use crate::associations::Associations;
+use crate::control_tables::ControlTables;
+use crate::delays::DelayScan;
 use crate::fault::ActionFault;
 use crate::faults::first_fault;
-use crate::listing::list_blocks;
-use crate::singles::are_single;
-use crate::timed::Timed;
 use sfc_base::ids::ActionNumber;
 use sfc_base::ticks::Ticks;
 use sfc_evolve::steps::Steps;
@@ -60,16 +59,17 @@ use std::alloc::{AllocError, Global};
 #[tactic(auto, unfolding(crate::specs::Agreement::HasDelays, crate::specs::Agreement::ControlsAgree))]
 impl Controls {
     /// Before the first scan of a life. The one error is that memory was refused.
-    pub fn new(alloc: Global, tables: &Tables) -> Result<Controls, AllocError>
+    pub fn new(
+        alloc: Global,
+        tables: &Tables,
+        control_tables: &ControlTables,
+    ) -> Result<Controls, AllocError>
+        requires { AreControlTablesOf tables.now control_tables.now }
         ensures sizes { IfOk result (λ controls. IsFor tables.now controls) }
         ensures agrees { IfOk result (λ controls. ControlsAgree tables.now controls []) }
     {
-        let _steps = tables.steps();
         let n = tables.actions();
-        let mut seen = Timed::new(alloc, n)?;
-        let blocks = list_blocks(alloc, tables.step_actions(), &mut seen)?;
-        let is_single = are_single(alloc, n, tables.step_actions())?;
-        let state = ControlState::new(alloc, n, blocks, is_single)?;
+        let state = ControlState::new(alloc, n, &control_tables.blocks)?;
         let control_scan = ControlScan::new(alloc, n)?;
         Ok(Controls {
             state,
@@ -93,7 +93,7 @@ impl Controls {
     ) -> Result<(), ActionFault>
         requires sizes { IsFor tables.now self.old }
         requires steps { step_total steps.now ≡ length tables.now.initial }
-        requires step_inputs { AreInputsOf tables.now associations.step_inputs.now }
+        requires tables { AreControlTablesOf tables.now associations.tables.now }
         requires times { length associations.times.now ≡ length tables.now.associations }
         requires low { pos 0 ≤ℤ t }
         requires high { t ≤ℤ pos (2 ^ 62) }
@@ -125,27 +125,31 @@ impl Controls {
         ) {
             return Err(fault);
         }
+        let scan = DelayScan {
+            places: &associations.tables.places,
+            t,
+        };
         self.state
-            .act(&mut self.control_scan, settled.is_called, t, ticks);
+            .act(&mut self.control_scan, settled.is_called, scan, ticks);
         Ok(())
     }
 
     /// One scan whose active steps are those of the scan before: answers whether it is done, without a fault, and with the outcome that
     /// `step` has. Where it answers no nothing has changed, and the scan wants `step`. It is done where no on-delay runs or has elapsed,
     /// no action has two associations by SD or SL, and no pulse gives Q (2.6.4.5). It takes no memory.
-    pub fn repeat(&mut self, ticks: &mut Ticks) -> bool
+    pub fn repeat(&mut self, control_tables: &ControlTables, ticks: &mut Ticks) -> bool
         ensures sizes { (tables : Tabled) → IsFor tables self.old → IsFor tables self.new }
-        ensures agrees { result ≡ true → (tables : Tabled) (scan last : Scan) (h : List Scan) → scan.active ≡ last.active →
-            ControlsAgree tables self.old (last ∷ h) → ControlsAgree tables self.new (scan ∷ last ∷ h) }
-        ensures faultless { result ≡ true → (tables : Tabled) (scan last : Scan) (h : List Scan) → scan.active ≡ last.active →
-            ControlsAgree tables self.old (last ∷ h) → first_fault tables (scan ∷ last ∷ h) ≡ None }
+        ensures agrees { result ≡ true → (tables : Tabled) (scan last : Scan) (h : List Scan) →
+            AreControlTablesOf tables control_tables.now → scan.active ≡ last.active → ControlsAgree tables self.old (last ∷ h) → ControlsAgree tables self.new (scan ∷ last ∷ h) }
+        ensures faultless { result ≡ true → (tables : Tabled) (scan last : Scan) (h : List Scan) →
+            AreControlTablesOf tables control_tables.now → scan.active ≡ last.active → ControlsAgree tables self.old (last ∷ h) → first_fault tables (scan ∷ last ∷ h) ≡ None }
         ensures unchanged { result ≡ false → self.new ≡ self.old }
         ensures noted { result ≡ true → (tables : Tabled) (h : List Scan) → ControlsAgree tables self.old h →
             ControlsNoted tables self.new h }
         ensures ticks { Within (2 * action_total self.old) ticks.old ticks.new }
         ensures ticks_of_no { result ≡ false → Within (action_total self.old) ticks.old ticks.new }
     {
-        if !self.state.is_at_rest(ticks) {
+        if !control_tables.is_single || !self.state.is_at_rest(ticks) {
             return false;
         }
         self.state.rest(ticks);

@@ -10,9 +10,15 @@ pub struct Delays {
     blocks: Vec<Block>,
     // The places of those that a scan handles, whatever its inputs are: those that aren't idle.
     live: Flags,
-    places: GroupedPlaces,
     // None runs or has elapsed.
     is_idle: bool,
+}
+
+/// Where the on-delays of each action stand, and the instant of a scan.
+#[derive(Clone, Copy)]
+pub struct DelayScan<'a> {
+    pub places: &'a GroupedPlaces,
+    pub t: i64,
 }
 
 // By hand, so that a caller that drops one proves one call.
@@ -21,7 +27,6 @@ impl Drop for Delays {
         let Delays {
             blocks: _,
             live: _,
-            places: _,
             is_idle: _,
         } = self;
     }
@@ -36,13 +41,12 @@ impl Model for Delays {
 
     ghost view = { λ delays. delays.blocks.items };
 
-    ghost invariant = { λ delays. AreKept delays.blocks.items delays.live delays.places delays.is_idle };
+    ghost invariant = { λ delays. AreKept delays.blocks.items delays.live delays.is_idle };
 }
 
 use crate::blocks::{DelayCall, forget_all, step_live};
 use crate::control_scan::ControlScan;
 use crate::notes::DelayNotes;
-use crate::places::list_places;
 use crate::waking::{copy_flagged, wake};
 use sfc_base::ticks::Ticks;
 use std::alloc::{AllocError, Global};
@@ -57,33 +61,31 @@ impl Delays {
     ghost use Rattle.sfc_action.specs.Private.Keeping.{delay_of};
     ghost use Rattle.sfc_action.specs.Private.Listing.{IsNew};
     ghost use Rattle.sfc_action.specs.Private.Calling.{AreCalled};
-    ghost use Rattle.sfc_action.specs.Private.Live.{IsIdle};
+    ghost use Rattle.sfc_action.specs.Private.Live.{IsIdle, AreListed};
     ghost use Rattle.sfc_action.specs.Private.Noting.{AreNotesFor, AreNoted};
     ghost use Rattle.sfc_action.specs.declared.blocks.Block.{Block};
 
-    /// These on-delays, which are of so many actions and have seen no call. The one error is that memory was refused.
-    pub fn new(alloc: Global, actions: usize, blocks: Vec<Block>) -> Result<Delays, AllocError>
-        requires actions { AreOf actions blocks.items }
-        requires fresh { All IsNew blocks.items }
-        ensures { IfOk result (λ delays. delays ≡ blocks.items) }
+    /// These on-delays, which have seen no call. The one error is that memory was refused.
+    pub fn new(alloc: Global, blocks: &[Block]) -> Result<Delays, AllocError>
+        requires { All IsNew blocks.now }
+        ensures { IfOk result (λ delays. delays ≡ blocks.now) }
     {
-        let places = list_places(alloc, actions, &blocks)?;
-        let live = Flags::new(alloc, blocks.len())?;
+        let mut own = Vec::new(alloc);
+        own.extend_from_slice(blocks)?;
         Ok(Delays {
-            blocks,
-            live,
-            places,
+            blocks: own,
+            live: Flags::new(alloc, blocks.len())?,
             is_idle: true,
         })
     }
 
-    /// One scan of all on-delays at t, with the inputs, the flip-flops and the times of the control scan, which gets the sets of those
-    /// that have elapsed. What those were that it handles is noted.
+    /// One scan of all on-delays, with the inputs, the flip-flops and the times of the control scan, which gets the sets of those that have
+    /// elapsed. What those were that it handles is noted.
     pub fn step(
         &mut self,
         control_scan: &mut ControlScan,
         notes: &mut DelayNotes,
-        t: i64,
+        scan: DelayScan<'_>,
         ticks: &mut Ticks,
     )
         requires sized { IsControlScan (length control_scan.old.presets.items) control_scan.old }
@@ -91,18 +93,19 @@ impl Delays {
         requires actions { AreOf (length control_scan.old.presets.items) self.old }
         requires called { AreCalled control_scan.old.inputs control_scan.old.stores control_scan.old.called }
         requires elapsed { control_scan.old.elapsed ≡ none (length control_scan.old.presets.items) }
-        requires low { pos 0 ≤ℤ t }
-        requires high { t ≤ℤ pos (2 ^ 62) }
+        requires places { AreListed self.old scan.places.now }
+        requires low { pos 0 ≤ℤ scan.t }
+        requires high { scan.t ≤ℤ pos (2 ^ 62) }
         ensures sized { IsControlScan (length control_scan.old.presets.items) control_scan.new }
         ensures notes { AreNotesFor (length self.old) notes.new }
         ensures len { length self.new ≡ length self.old }
-        ensures stepped { AreStepped control_scan.old.inputs control_scan.old.stores control_scan.old.presets.items t self.old self.new }
+        ensures stepped { AreStepped control_scan.old.inputs control_scan.old.stores control_scan.old.presets.items scan.entry.t self.old self.new }
         ensures noted { AreNoted notes.new self.old self.new }
         ensures control_scan { control_scan.new
             ≡ record control_scan.old { elapsed = gathered self.new (none (length control_scan.old.presets.items)) } }
         ensures ticks { Within (length control_scan.old.presets.items + 4 * length self.old) ticks.old ticks.new }
     {
-        wake(&mut self.live, &self.places, &control_scan.called, ticks);
+        wake(&mut self.live, scan.places, &control_scan.called, ticks);
         notes.has_stepped = true;
         notes.is_idle = self.is_idle;
         notes.handled.copy_from(&self.live, ticks);
@@ -111,7 +114,7 @@ impl Delays {
             inputs: &control_scan.inputs,
             stores: &control_scan.stores,
             presets: &control_scan.presets,
-            t,
+            t: scan.t,
         };
         self.is_idle = step_live(
             &mut self.blocks,

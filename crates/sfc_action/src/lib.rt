@@ -3,6 +3,7 @@
 //! - `associations`: what a scan knows of the associations.
 //! - `blocks`: on-delays of actions.
 //! - `controls`: action control of a program instance.
+//! - `control_tables`: what it needs of a chart.
 //! - `delays`: on-delays of a scan.
 //! - `fault`: what makes a scan's action control fail.
 //! - `faults`: the first fault of a scan.
@@ -35,6 +36,7 @@ pub mod associations;
 mod blocks;
 mod control_scan;
 mod control_state;
+pub mod control_tables;
 pub mod controls;
 mod delays;
 pub mod fault;

@@ -88,7 +88,7 @@ pub fn mark_active(
     requires sized { AreSized (length presets.old) inputs.old }
     requires actions { length presets.old ≡ length tables.now.actions }
     requires steps { length active.now ≡ length tables.now.initial }
-    requires step_inputs { AreInputsOf tables.now associations.step_inputs.now }
+    requires step_inputs { AreInputsOf tables.now associations.tables.now.step_inputs }
     requires times { length associations.times.now ≡ length tables.now.associations }
     ensures sized { AreSized (length presets.old) inputs.new }
     ensures inputs { inputs.new ≡ marked_at tables.now.associations (places_from active.now 0) inputs.old }
@@ -96,7 +96,7 @@ pub fn mark_active(
         ≡ presets_at associations.entry.times.now tables.now.associations (places_from active.now 0) presets.old }
     ensures ticks { Within (length active.now + length tables.now.associations) ticks.old ticks.new }
 {
-    let step_inputs = associations.step_inputs;
+    let step_inputs = &associations.tables.step_inputs;
     let mut walk = active.start();
     'active: while let Some((s, next)) = active.next(walk, ticks) {
         join_all(inputs, step_inputs.plain(s), ticks);

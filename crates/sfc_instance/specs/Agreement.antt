@@ -53,12 +53,11 @@ shown_elapsed program s = evolve.shown_time program.run.now.steps program.at s
 unfoldable pub elapsed_at : Program → ℤ → ℕ → ℤ
 elapsed_at program t s = evolve.shown_time program.run.now.steps t s
 
--- it is large enough for what these tables show, and has the times that no scan has to read and what the associations of the steps give
+-- it is large enough for what these tables show, and has the times that no scan has to read
 pub record AreBuffersFor (tables : Tabled) (buffers : ScanBuffers) : Type 0 where
   pub conditions : length buffers.conditions.items ≡ length tables.sides
   pub held : AreHeld (length tables.sides) buffers.holding buffers.conditions.items
-  pub times : AreTimes tables.associations buffers.times.items buffers.varied.items
-  pub step_inputs : action.AreInputsOf tables buffers.step_inputs
+  pub times : AreTimes tables.associations buffers.times.items
 
 pub record IsScanRunFor (tables : Tabled) (run : ScanRun) : Type 0 where
   pub now : IsStateFor tables run.now

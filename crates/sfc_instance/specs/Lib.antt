@@ -2,6 +2,8 @@
 
 -- the scans of a life
 pub mod Life
+-- what the instances of a program type share
+pub mod Sharing
 -- what a program instance stands for in a plant
 pub mod Contexts
 -- one scan of a program

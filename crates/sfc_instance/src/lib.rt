@@ -13,6 +13,7 @@
 //! - `scan_fault`: what ended a scan without a row.
 //! - `scan_run`: what a scan works on.
 //! - `program_context`: what a program instance runs in.
+//! - `shared`: what the instances of a program type share.
 //! - `state`: steps and action control together.
 #![tactic(auto)]
 
@@ -31,6 +32,7 @@ mod scan_buffers;
 pub mod scan_end;
 pub mod scan_fault;
 mod scan_run;
+pub mod shared;
 pub mod state;
 
 // What the crates above name through this one.

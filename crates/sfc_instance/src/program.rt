@@ -7,6 +7,7 @@ use crate::program_context::ProgramContext;
 use crate::scan_end::ScanEnd;
 use crate::scan_fault::ScanFault;
 use crate::scan_run::ScanRun;
+use crate::shared::Shared;
 use sfc_base::ids::{ActionNumber, TransitionId};
 use sfc_base::references::StepId;
 use sfc_base::ticks::Ticks;
@@ -52,6 +53,7 @@ impl Program {
     ghost use Rattle.sfc_evolve.specs.Evolution.{active_steps};
     ghost use Rattle.sfc_instance.specs.Life.{Life, InstanceState, evolution_rows, latest_instant, fresh};
     ghost use Rattle.sfc_instance.specs.Contexts.{IsContextOf};
+    ghost use Rattle.sfc_instance.specs.Sharing.{IsSharedOf};
     ghost use Rattle.sfc_instance.specs.ProgramScan.{after_scan, step_times};
     ghost use Rattle.sfc_instance.specs.declared.scan_end.ScanEnd.TheVariants.{Faulted};
     ghost use Rattle.sfc_instance.specs.Work.{copy_work, good_work, scan_work};
@@ -60,12 +62,13 @@ impl Program {
 
     /// Before the first scan of a life. All memory that scans need is taken here; the one error is that memory was
     /// refused.
-    pub fn new(alloc: Global, tables: &Tables) -> Result<Program, AllocError>
+    pub fn new(alloc: Global, tables: &Tables, shared: &Shared) -> Result<Program, AllocError>
+        requires { IsSharedOf tables.now shared.now }
         ensures sizes { IfOk result (λ program. IsFor tables.now program) }
         ensures agrees { IfOk result (λ program. ProgramAgrees tables.now program fresh) }
     {
         Ok(Program {
-            run: ScanRun::new(alloc, tables)?,
+            run: ScanRun::new(alloc, tables, shared)?,
             scans: 0,
             at: 0,
             fault: None,
@@ -83,6 +86,7 @@ impl Program {
         ticks: &mut Ticks,
     ) -> ScanEnd
         requires tables { context.tables.now ≡ tables_of context.chart.now }
+        requires shared { IsSharedOf context.tables.now context.shared.now }
         requires sizes { IsFor context.tables.now self.old }
         requires instance { context.instance.0 < instance_total image.old }
         requires closed { is_open image.old ≡ false }

@@ -4,7 +4,7 @@ ghost use Rattle.std.specs.Prelude.{◌≡◌, length, map, IfOk, IfSome};
 ghost use Rattle.sfc_base.specs.Ticks.{Within};
 ghost use Rattle.sfc_expr.specs.Environment.{Environment};
 ghost use Rattle.sfc_instance.specs.ProgramScan.{time_of as the_time};
-ghost use Rattle.sfc_instance.specs.Private.Timing.{AreTimes};
+ghost use Rattle.sfc_instance.specs.Private.Timing.{AreTimes, AreVaried};
 
 use sfc_base::ticks::Ticks;
 use sfc_expr::view::View;
@@ -42,7 +42,8 @@ pub fn list_varied(
     times: &mut [i64],
 ) -> Result<Vec<usize>, AllocError>
     requires { length times.old ≡ length associations.now }
-    ensures { IfOk result (λ varied. AreTimes associations.now times.new varied.items) }
+    ensures times { IfOk result (λ _. AreTimes associations.now times.new) }
+    ensures varied { IfOk result (λ varied. AreVaried associations.now varied.items) }
 {
     let mut varied = Vec::new(alloc);
     for k in 0..times.len() {
@@ -62,9 +63,10 @@ pub fn read_association_times<V: View>(
     view: &V,
     ticks: &mut Ticks,
 )
-    requires { AreTimes associations.now times.old varied.now }
+    requires times { AreTimes associations.now times.old }
+    requires varied { AreVaried associations.now varied.now }
     ensures times { times.new ≡ map (λ x. the_time (V.environment view.now) x.qualifier) associations.now }
-    ensures varied { AreTimes associations.now times.new varied.now }
+    ensures kept { AreTimes associations.now times.new }
     ensures ticks { Within (length varied.now) ticks.old ticks.new }
 {
     for k in varied {

@@ -1,14 +1,11 @@
 //! The buffers of a scan of a program instance.
 
-/// Of each transition the condition, by number, and which of them are TRUE; of each association the time, by number; and the
-/// numbers of the associations whose time a scan reads; and what the associations of each step give as inputs.
+/// Of each transition the condition, by number, and which of them are TRUE; and of each association the time, by number.
 #[derive(Drop)]
 pub struct ScanBuffers {
     pub conditions: Vec<bool>,
     pub holding: Holding,
     pub times: Vec<i64>,
-    pub varied: Vec<usize>,
-    pub step_inputs: StepInputs,
 }
 
 ghost use Rattle.std.specs.Prelude.{◌≡◌, ◌<◌, ◌≤ℤ◌, ◌^◌, ◌+◌, List, false, pos, length, IfOk, OnOk};
@@ -20,6 +17,7 @@ ghost use Rattle.sfc_image.specs.Changes.{Change, settled};
 ghost use Rattle.sfc_image.specs.Agreement.{ImageAgrees, instance_total};
 ghost use Rattle.sfc_instance.specs.Life.{Life};
 ghost use Rattle.sfc_instance.specs.Contexts.{IsContextOf};
+ghost use Rattle.sfc_instance.specs.Sharing.{IsSharedOf};
 ghost use Rattle.sfc_instance.specs.ProgramScan.{environment, condition_fault, next_row};
 ghost use Rattle.sfc_instance.specs.Private.Holding.{IsReady};
 ghost use Rattle.sfc_instance.specs.Work.{condition_work};
@@ -28,9 +26,9 @@ ghost use Rattle.sfc_instance.specs.Agreement.{IsStateFor, AreBuffersFor, StateA
 use crate::conditions::{TransitionFault, blank, evaluate_all};
 use crate::holding::Holding;
 use crate::program_context::ProgramContext;
-use crate::reading::{list_varied, read_association_times};
+use crate::reading::read_association_times;
+use crate::shared::Shared;
 use crate::state::State;
-use sfc_action::step_inputs::StepInputs;
 use sfc_base::ticks::Ticks;
 use sfc_image::image::Image;
 use sfc_tables::tables::Tables;
@@ -38,17 +36,16 @@ use std::alloc::{AllocError, Global};
 
 impl ScanBuffers {
     /// Buffers for scans of a chart with these tables. The one error is that memory was refused.
-    pub fn new(alloc: Global, tables: &Tables) -> Result<ScanBuffers, AllocError>
+    pub fn new(alloc: Global, tables: &Tables, shared: &Shared) -> Result<ScanBuffers, AllocError>
+        requires { IsSharedOf tables.now shared.now }
         ensures { IfOk result (λ buffers. AreBuffersFor tables.now buffers) }
     {
-        let mut times = vec![in alloc; 0; tables.associations()]?;
-        let varied = list_varied(alloc, tables.step_actions(), &mut times)?;
+        let mut times = Vec::new(alloc);
+        times.extend_from_slice(&shared.times)?;
         Ok(ScanBuffers {
             conditions: vec![in alloc; false; tables.transitions()]?,
             holding: Holding::Nothing,
             times,
-            varied,
-            step_inputs: StepInputs::new(alloc, tables)?,
         })
     }
 
@@ -63,6 +60,7 @@ impl ScanBuffers {
         ticks: &mut Ticks,
     ) -> Result<(), TransitionFault>
         requires tables { context.tables.now ≡ tables_of context.chart.now }
+        requires shared { IsSharedOf context.tables.now context.shared.now }
         requires sizes { AreBuffersFor context.tables.now self.old }
         requires state { IsStateFor context.tables.now state.now }
         requires instance { context.instance.0 < instance_total image.now }
@@ -90,7 +88,7 @@ impl ScanBuffers {
                 self.holding = holding;
                 read_association_times(
                     &mut self.times,
-                    &self.varied,
+                    &context.shared.varied,
                     context.tables.step_actions(),
                     &view,
                     ticks,

@@ -33,6 +33,7 @@ ghost use Rattle.sfc_image.specs.Changes.{Change, settled};
 ghost use Rattle.sfc_image.specs.Agreement.{ImageAgrees, IsAsLarge, instance_total, variable_total, is_open};
 ghost use Rattle.sfc_instance.specs.Life.{Life};
 ghost use Rattle.sfc_instance.specs.Contexts.{IsContextOf};
+ghost use Rattle.sfc_instance.specs.Sharing.{IsSharedOf};
 ghost use Rattle.sfc_instance.specs.ProgramScan.{after_actions, attempt, next_row, with_row};
 ghost use Rattle.sfc_instance.specs.Work.{acting_work, good_work, scan_work, undo_work};
 ghost use Rattle.sfc_instance.specs.Agreement.{IsScanRunFor, StateAgrees, StateNoted};
@@ -42,6 +43,7 @@ ghost use Rattle.sfc_instance.specs.Private.Scanning.{HasScanned, go_work, row_i
 
 use crate::program_context::ProgramContext;
 use crate::scan_fault::ScanFault;
+use crate::shared::Shared;
 use sfc_base::ticks::Ticks;
 use sfc_expr::fault::Fault;
 use sfc_image::image::Image;
@@ -50,13 +52,14 @@ use std::alloc::{AllocError, Global};
 
 impl ScanRun {
     /// Before the first scan of a life. The one error is that memory was refused.
-    pub fn new(alloc: Global, tables: &Tables) -> Result<ScanRun, AllocError>
+    pub fn new(alloc: Global, tables: &Tables, shared: &Shared) -> Result<ScanRun, AllocError>
+        requires { IsSharedOf tables.now shared.now }
         ensures sizes { IfOk result (λ run. IsScanRunFor tables.now run) }
         ensures agrees { IfOk result (λ run. StateAgrees tables.now run.now []) }
     {
         Ok(ScanRun {
-            now: State::new(alloc, tables)?,
-            buffers: ScanBuffers::new(alloc, tables)?,
+            now: State::new(alloc, tables, &shared.controls)?,
+            buffers: ScanBuffers::new(alloc, tables, shared)?,
             place: None,
         })
     }
@@ -71,6 +74,7 @@ impl ScanRun {
         ticks: &mut Ticks,
     ) -> Result<(), Fault>
         requires tables { context.tables.now ≡ tables_of context.chart.now }
+        requires shared { IsSharedOf context.tables.now context.shared.now }
         requires sizes { IsScanRunFor context.tables.now self.old }
         requires instance { context.instance.0 < instance_total image.old }
         requires closed { is_open image.old ≡ false }
@@ -108,6 +112,7 @@ impl ScanRun {
         ticks: &mut Ticks,
     ) -> Result<(), ScanFault>
         requires tables { context.tables.now ≡ tables_of context.chart.now }
+        requires shared { IsSharedOf context.tables.now context.shared.now }
         requires sizes { IsScanRunFor context.tables.now self.old }
         requires instance { context.instance.0 < instance_total image.old }
         requires closed { is_open image.old ≡ false }
@@ -128,7 +133,7 @@ impl ScanRun {
         ensures good { OnOk result
             (Within (go_work context.entry.tables.now context.entry.chart.now (variable_total image.old)) ticks.old ticks.new) }
     {
-        match self.now.advance(context.tables, &self.buffers, t, ticks) {
+        match self.now.advance(context, &self.buffers, t, ticks) {
             Err(fault) => {
                 self.place = Some(FaultPlace::Action(fault.action));
                 Err(ScanFault::Control(fault.fault))
@@ -149,6 +154,7 @@ impl ScanRun {
         ticks: &mut Ticks,
     ) -> Result<(), ScanFault>
         requires tables { context.tables.now ≡ tables_of context.chart.now }
+        requires shared { IsSharedOf context.tables.now context.shared.now }
         requires sizes { IsScanRunFor context.tables.now self.old }
         requires instance { context.instance.0 < instance_total image.old }
         requires closed { is_open image.old ≡ false }

@@ -29,13 +29,14 @@ ghost use Rattle.sfc_evolve.specs.Evolution.{active_steps, rows_of};
 ghost use Rattle.sfc_evolve.specs.Agreement as evolve;
 ghost use Rattle.sfc_evolve.specs.Work.{advance_work};
 ghost use Rattle.sfc_action.specs.ActionControl.{Scan, first_fault};
-ghost use Rattle.sfc_action.specs.Agreement.{IsFor, ControlsAgree, ControlsNoted, action_total};
+ghost use Rattle.sfc_action.specs.Agreement.{IsFor, AreControlTablesOf, ControlsAgree, ControlsNoted, action_total};
 ghost use Rattle.sfc_action.specs.Work.{control_work};
 ghost use Rattle.sfc_image.specs.StepTimes.{times_of};
 ghost use Rattle.sfc_instance.specs.Life.{Life, control_scans, evolution_rows};
 ghost use Rattle.sfc_instance.specs.ProgramScan.{step_times};
 ghost use Rattle.sfc_base.specs.declared.ids.TransitionId.{TransitionId};
 ghost use Rattle.sfc_instance.specs.declared.holding.Holding.TheVariants as holding;
+ghost use Rattle.sfc_instance.specs.Sharing.{IsSharedOf};
 ghost use Rattle.sfc_instance.specs.Private.Holding.{IsReady};
 ghost use Rattle.sfc_instance.specs.Private.Scanning.{row_in};
 ghost use Rattle.sfc_instance.specs.Work.{copy_work, undo_work};
@@ -43,8 +44,10 @@ ghost use Rattle.sfc_instance.specs.declared.state.State.{State};
 ghost use Rattle.sfc_instance.specs.Agreement.{AreBuffersFor, IsStateFor, StateAgrees, StateNoted};
 
 use crate::holding::Holding;
+use crate::program_context::ProgramContext;
 use crate::scan_buffers::ScanBuffers;
 use sfc_action::associations::Associations;
+use sfc_action::control_tables::ControlTables;
 use sfc_action::fault::ActionFault;
 use sfc_base::ticks::Ticks;
 use sfc_image::step_readings::StepReadings;
@@ -52,13 +55,18 @@ use sfc_tables::tables::Tables;
 use std::alloc::{AllocError, Global};
 
 // A scan of action control in which no step moved, where that is enough: answers whether it is.
-fn repeat(controls: &mut Controls, moved: bool, ticks: &mut Ticks) -> bool
+fn repeat(
+    controls: &mut Controls,
+    control_tables: &ControlTables,
+    moved: bool,
+    ticks: &mut Ticks,
+) -> bool
     ensures still { result ≡ true → moved ≡ false }
     ensures sizes { (tables : Tabled) → IsFor tables controls.old → IsFor tables controls.new }
-    ensures agrees { result ≡ true → (tables : Tabled) (scan last : Scan) (h : List Scan) → scan.active ≡ last.active →
-        ControlsAgree tables controls.old (last ∷ h) → ControlsAgree tables controls.new (scan ∷ last ∷ h) }
-    ensures faultless { result ≡ true → (tables : Tabled) (scan last : Scan) (h : List Scan) → scan.active ≡ last.active →
-        ControlsAgree tables controls.old (last ∷ h) → first_fault tables (scan ∷ last ∷ h) ≡ None }
+    ensures agrees { result ≡ true → (tables : Tabled) (scan last : Scan) (h : List Scan) → AreControlTablesOf tables control_tables.now →
+        scan.active ≡ last.active → ControlsAgree tables controls.old (last ∷ h) → ControlsAgree tables controls.new (scan ∷ last ∷ h) }
+    ensures faultless { result ≡ true → (tables : Tabled) (scan last : Scan) (h : List Scan) → AreControlTablesOf tables control_tables.now →
+        scan.active ≡ last.active → ControlsAgree tables controls.old (last ∷ h) → first_fault tables (scan ∷ last ∷ h) ≡ None }
     ensures unchanged { result ≡ false → controls.new ≡ controls.old }
     ensures noted { result ≡ true → (tables : Tabled) (h : List Scan) → ControlsAgree tables controls.old h →
         ControlsNoted tables controls.new h }
@@ -68,7 +76,7 @@ fn repeat(controls: &mut Controls, moved: bool, ticks: &mut Ticks) -> bool
     if moved {
         return false;
     }
-    controls.repeat(ticks)
+    controls.repeat(control_tables, ticks)
 }
 
 // The short way of a scan of the steps, where no condition is TRUE: answers whether it is done.
@@ -165,13 +173,18 @@ fn go_on(
 #[tactic(auto, unfolding(crate::specs::Agreement::StateAgrees))]
 impl State {
     /// Before the first scan of a life. The one error is that memory was refused.
-    pub fn new(alloc: Global, tables: &Tables) -> Result<State, AllocError>
+    pub fn new(
+        alloc: Global,
+        tables: &Tables,
+        control_tables: &ControlTables,
+    ) -> Result<State, AllocError>
+        requires { AreControlTablesOf tables.now control_tables.now }
         ensures sizes { IfOk result (λ state. IsStateFor tables.now state) }
         ensures agrees { IfOk result (λ state. StateAgrees tables.now state []) }
     {
         Ok(State {
             steps: Steps::new(alloc, tables)?,
-            controls: Controls::new(alloc, tables)?,
+            controls: Controls::new(alloc, tables, control_tables)?,
         })
     }
 
@@ -220,33 +233,35 @@ impl State {
     /// action; then all answers are those before it.
     pub fn advance(
         &mut self,
-        tables: &Tables,
+        context: ProgramContext<'_>,
         buffers: &ScanBuffers,
         t: i64,
         ticks: &mut Ticks,
     ) -> Result<(), ActionFault>
-        requires sizes { IsStateFor tables.now self.old }
-        requires buffers { AreBuffersFor tables.now buffers.now }
-        requires ready { IsReady tables.now self.old.steps buffers.now.holding }
+        requires shared { IsSharedOf context.tables.now context.shared.now }
+        requires sizes { IsStateFor context.tables.now self.old }
+        requires buffers { AreBuffersFor context.tables.now buffers.now }
+        requires ready { IsReady context.tables.now self.old.steps buffers.now.holding }
         requires low { pos 0 ≤ℤ t }
         requires high { t ≤ℤ pos (2 ^ 62) }
-        ensures sizes { IsStateFor tables.now self.new }
-        ensures fault { (life : Life) → StateAgrees tables.now self.old life → result_err result ≡
-            first_fault tables.now (control_scans tables.now (row_in buffers.now t ∷ life)) }
-        ensures agrees { OnOk result ((life : Life) → StateAgrees tables.now self.old life →
-            StateAgrees tables.now self.new (row_in buffers.now t ∷ life)) }
-        ensures noted { OnOk result ((life : Life) → StateAgrees tables.now self.old life → StateNoted tables.now self.new life) }
-        ensures err { OnErr result ((life : Life) → StateAgrees tables.now self.old life → StateAgrees tables.now self.new life) }
-        ensures ticks { Within (advance_work tables.now + control_work tables.now + undo_work tables.now) ticks.old ticks.new }
-        ensures good { OnOk result (Within (advance_work tables.now + control_work tables.now) ticks.old ticks.new) }
+        ensures sizes { IsStateFor context.entry.tables.now self.new }
+        ensures fault { (life : Life) → StateAgrees context.entry.tables.now self.old life → result_err result ≡
+            first_fault context.entry.tables.now (control_scans context.entry.tables.now (row_in buffers.now t ∷ life)) }
+        ensures agrees { OnOk result ((life : Life) → StateAgrees context.entry.tables.now self.old life →
+            StateAgrees context.entry.tables.now self.new (row_in buffers.now t ∷ life)) }
+        ensures noted { OnOk result ((life : Life) → StateAgrees context.entry.tables.now self.old life → StateNoted context.entry.tables.now self.new life) }
+        ensures err { OnErr result ((life : Life) → StateAgrees context.entry.tables.now self.old life → StateAgrees context.entry.tables.now self.new life) }
+        ensures ticks { Within (advance_work context.entry.tables.now + control_work context.entry.tables.now + undo_work context.entry.tables.now) ticks.old ticks.new }
+        ensures good { OnOk result (Within (advance_work context.entry.tables.now + control_work context.entry.tables.now) ticks.old ticks.new) }
     {
+        let ProgramContext { tables, shared, .. } = context;
         let moved = go_on(&mut self.steps, tables, buffers, t, ticks);
-        if repeat(&mut self.controls, moved, ticks) {
+        if repeat(&mut self.controls, &shared.controls, moved, ticks) {
             return Ok(());
         }
         let associations = Associations {
             times: &buffers.times,
-            step_inputs: &buffers.step_inputs,
+            tables: &shared.controls,
         };
         let answer = self
             .controls

@@ -1,6 +1,8 @@
 -- What `Instances` agree with.
-use Rattle.std.specs.Prelude.{ℕ, ◌≡◌, ◌<◌, false, List, length, map, slice_index_or}
-use Rattle.sfc_instance.specs.sfc_tables.Tables.{tables_of}
+use Rattle.std.specs.Prelude.{ℕ, ◌≡◌, ◌<◌, ◌×◌, false, List, length, map, slice_index_or}
+use Rattle.sfc_instance.specs.sfc_tables.Tables.{Tabled, tables_of}
+use Rattle.sfc_instance.specs.Sharing.{IsSharedOf}
+use Rattle.sfc_instance.specs.declared.shared.Shared.{Shared}
 use Rattle.sfc_plant.specs.declared.program_type.ProgramType.{ProgramType}
 use Rattle.sfc_plant.specs.Plants.{PlantData}
 use Rattle.sfc_instance.specs.sfc_image.Changes.{settled}
@@ -25,9 +27,15 @@ AreFor plant programs =
     (k : ℕ) (d : Program) → k < length programs →
     program.IsFor (tables_of (chart_of plant (record { 0 = k }))) (slice_index_or programs k d)
 
+-- each is what the instances of a chart with these tables share
+abbrev pub AreShared : List Tabled → List Shared → Type 0
+AreShared tables shared = (length shared ≡ length tables)
+    × ((k : ℕ) (t : Tabled) (d : Shared) → k < length tables → IsSharedOf (slice_index_or tables k t) (slice_index_or shared k d))
+
 -- it has the tables, the variables and the programs of the plant
 pub record AreInstancesOf (plant : PlantData) (running : Instances) : Type 0 where
   pub tables : running.tables.items ≡ map (λ (p : ProgramType). tables_of p.chart) plant.types
+  pub shared : AreShared running.tables.items running.shared.items
   pub variables : variable_total running ≡ variable_count plant
   pub locals : image.instance_total running.image ≡ length plant.instances
   pub closed : image.is_open running.image ≡ false

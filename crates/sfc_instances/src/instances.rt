@@ -5,11 +5,12 @@ use crate::sfc_tables::tables::Tables;
 use sfc_base::limits::VARIABLES;
 use sfc_instance::program::Program;
 
-/// The tables of each program type, the variables, and each program instance.
+/// The tables of each program type and what its instances share, the variables, and each program instance.
 ///
 /// A `plant` that is passed is the one that the instances were made of.
 pub struct Instances {
     tables: Vec<Tables>,
+    shared: Vec<Shared>,
     image: Image,
     programs: Vec<Program>,
 }
@@ -19,6 +20,7 @@ impl Drop for Instances {
     fn drop(self) {
         let Instances {
             tables: _,
+            shared: _,
             image: _,
             programs: _,
         } = self;
@@ -41,7 +43,7 @@ ghost use Rattle.sfc_instances.specs.PlantState.{PlantState, opened, with_change
 ghost use Rattle.sfc_instances.specs.Ends.{AreBits};
 ghost use Rattle.sfc_instances.specs.Singles.{single_in, singles_in};
 ghost use Rattle.sfc_instances.specs.Work.{program_work, task_work, reset_work};
-ghost use Rattle.sfc_instances.specs.Agreement.{AreInstancesOf, InstancesAgree, AreFor, ProgramsAgree, variable_total, instance_total};
+ghost use Rattle.sfc_instances.specs.Agreement.{AreInstancesOf, InstancesAgree, AreFor, AreShared, ProgramsAgree, variable_total, instance_total};
 ghost use Rattle.sfc_instances.specs.Private.Building.{AreOpened};
 
 use crate::bits::Bits;
@@ -53,6 +55,7 @@ use sfc_base::value::Value;
 use sfc_instance::program_context::ProgramContext;
 use sfc_instance::program_view::ProgramView;
 use sfc_instance::scan_end::ScanEnd;
+use sfc_instance::shared::Shared;
 use sfc_plant::instance::Instance;
 use sfc_plant::plant::Plant;
 use sfc_plant::program_type::ProgramType;
@@ -70,25 +73,45 @@ fn build_tables(alloc: Global, types: &[ProgramType]) -> Result<Vec<Tables>, All
     Ok(tables)
 }
 
+// What the instances of each type share, where these are the tables of their charts.
+fn build_shared(alloc: Global, tables: &[Tables]) -> Result<Vec<Shared>, AllocError>
+    ensures { IfOk result (λ shared. AreShared tables.now shared.items) }
+{
+    let mut shared = Vec::new(alloc);
+    for k in 0..tables.len() {
+        shared.push(Shared::new(alloc, &tables[k])?)?;
+    }
+    Ok(shared)
+}
+
 // A program for each instance.
 fn open_programs(
     alloc: Global,
     tables: &[Tables],
+    shared: &[Shared],
     instances: &[Instance],
 ) -> Result<Vec<Program>, AllocError>
-    requires { All (λ instance. instance.program.0 < length tables.now) instances.now }
+    requires shared { AreShared tables.now shared.now }
+    requires types { All (λ instance. instance.program.0 < length tables.now) instances.now }
     ensures len { IfOk result (λ programs. length programs.items ≡ length instances.now) }
     ensures each { IfOk result (λ programs. AreOpened tables.now instances.now programs.items) }
 {
     let mut programs = Vec::new(alloc);
     for k in 0..instances.len() {
-        programs.push(Program::new(alloc, &tables[instances[k].program.0])?)?;
+        let program = instances[k].program.0;
+        programs.push(Program::new(alloc, &tables[program], &shared[program])?)?;
     }
     Ok(programs)
 }
 
-// What a program instance runs in, where these are the tables of each program type.
-fn context_of<'a>(tables: &'a [Tables], plant: &'a Plant, instance: ProgId) -> ProgramContext<'a>
+// What a program instance runs in, where these are the tables of each program type and what its instances share.
+fn context_of<'a>(
+    tables: &'a [Tables],
+    shared: &'a [Shared],
+    plant: &'a Plant,
+    instance: ProgId,
+) -> ProgramContext<'a>
+    requires shared { AreShared tables.now shared.now }
     requires tables { tables.now ≡ map (λ p. tables_of p.chart) plant.now.types }
     requires instance { instance.0 < length plant.now.instances }
     ensures context { IsContextOf plant.now result }
@@ -97,6 +120,7 @@ fn context_of<'a>(tables: &'a [Tables], plant: &'a Plant, instance: ProgId) -> P
     let program = plant.instances()[instance.0 as usize].program.0;
     ProgramContext {
         tables: &tables[program],
+        shared: &shared[program],
         chart: &plant.types()[program].chart,
         instance,
     }
@@ -114,8 +138,8 @@ fn copy_programs(programs: &mut [Program], tables: &[Tables], plant: &Plant, fro
     ensures agrees { (state : PlantState) → ProgramsAgree plant.now from.now state → ProgramsAgree plant.now programs.new state }
 {
     for k in 0..plant.instances().len() {
-        let context = context_of(tables, plant, ProgId(k as u8));
-        programs[k].copy_from(context.tables, &from[k]);
+        let program = plant.instances()[k].program.0;
+        programs[k].copy_from(&tables[program], &from[k]);
     }
 }
 
@@ -128,10 +152,12 @@ impl Instances {
         ensures agrees { IfOk result (λ instances. InstancesAgree plant.now instances opened) }
     {
         let tables = build_tables(alloc, plant.types())?;
-        let programs = open_programs(alloc, &tables, plant.instances())?;
+        let shared = build_shared(alloc, &tables)?;
+        let programs = open_programs(alloc, &tables, &shared, plant.instances())?;
         let image = Image::new(alloc, plant, &tables)?;
         Ok(Instances {
             tables,
+            shared,
             image,
             programs,
         })
@@ -169,7 +195,7 @@ impl Instances {
         ensures shows { (state : PlantState) → InstancesAgree plant.now self.now state →
             Shows result state.changes (state.instance_state instance.0) }
     {
-        let context = context_of(&self.tables, plant, instance);
+        let context = context_of(&self.tables, &self.shared, plant, instance);
         let program = &self.programs[instance.0 as usize];
         ProgramView::new(plant, context.tables, program, &self.image, instance)
     }
@@ -280,7 +306,7 @@ impl Instances {
             (after_program instance (program_scan plant.now t instance.0 state) state) }
         ensures ticks { Within (program_work plant.now instance) ticks.old ticks.new }
     {
-        let context = context_of(&self.tables, plant, instance);
+        let context = context_of(&self.tables, &self.shared, plant, instance);
         self.programs[instance.0 as usize].scan(context, &mut self.image, t, ticks)
     }
 

@@ -25,7 +25,6 @@ use Rattle.sfc_action.specs.Private.Storing.{IsKept, none_kept, IsNext}
 use Rattle.sfc_action.specs.Private.Delays.{AreStepped, AreOf, gathered}
 use Rattle.sfc_action.specs.Private.ControlScans.{IsControlScan}
 use Rattle.sfc_action.specs.Private.Outputs.{q_at}
-use Rattle.sfc_action.specs.Private.Singles.{AreSingle}
 
 -- for n actions
 pub record IsStateSized (n : ℕ) (state : ControlState) : Type 0 where
@@ -39,13 +38,12 @@ pub record AreOfOneSize (state : ControlState) (control_scan : ControlScan) : Ty
   pub state_sized : IsStateSized (length state.q) state
   pub control_scan_sized : IsControlScan (length state.q) control_scan
 
--- with no flag, these on-delays, and this of its associations by SD and SL
-pub record IsFresh (n : ℕ) (delays : List Block) (is_single : Bool) (state : ControlState) : Type 0 where
+-- with no flag and these on-delays
+pub record IsFresh (n : ℕ) (delays : List Block) (state : ControlState) : Type 0 where
   pub kept : state.kept ≡ none_kept n
   pub q : state.q ≡ replicate n false
   pub executed : state.executed ≡ replicate n false
   pub blocks : state.blocks ≡ delays
-  pub single : state.is_single ≡ is_single
 
 -- what a scan at t made of all, with these inputs, flip-flops and times
 pub record IsActed (inputs : Inputs) (next : Stores) (presets : List ℤ) (t : ℤ) (old new : ControlState) : Type 0 where
@@ -63,14 +61,12 @@ pub record IsActed (inputs : Inputs) (next : Stores) (presets : List ℤ) (t : �
   pub rising_pulse : new.kept.rising_pulse ≡ inputs.rising_pulse
   pub falling_pulse : new.kept.falling_pulse ≡ inputs.falling_pulse
   pub stores : new.kept.stores ≡ next
-  pub single : new.is_single ≡ old.is_single
 
 pub record IsCopy (from to : ControlState) : Type 0 where
   pub kept : to.kept ≡ from.kept
   pub q : to.q ≡ from.q
   pub executed : to.executed ≡ from.executed
   pub blocks : to.blocks ≡ from.blocks
-  pub single : to.is_single ≡ from.is_single
 
 -- ---- which on-delays there are
 
@@ -94,7 +90,6 @@ pub record AreFor (tables : Tabled) (state : ControlState) : Type 0 where
   pub delays : map delay_of state.blocks ≡ with_delays [] tables.associations
   pub few : length state.blocks ≤ length tables.associations
   pub covered : All (IsCovered state.blocks) tables.associations
-  pub single : state.is_single ≡ true → AreSingle tables.associations
 
 -- ---- what is kept after these scans
 

@@ -29,8 +29,7 @@ AreListed blocks places = (k : ℕ) (d : Block) → k < length blocks → has_pl
 abbrev pub AreIdle : List Block → List Bool → Type 0
 AreIdle blocks live = (k : ℕ) (d : Block) → k < length blocks → flag live k ≡ false → IsIdle (slice_index_or blocks k d)
 
-pub record AreKept (blocks : List Block) (live : List Bool) (places : List (List ℕ)) (is_idle : Bool) : Type 0 where
+pub record AreKept (blocks : List Block) (live : List Bool) (is_idle : Bool) : Type 0 where
   pub size : length live ≡ length blocks
   pub idle : AreIdle blocks live
-  pub listed : AreListed blocks places
   pub all_idle : is_idle ≡ true → All IsIdle blocks

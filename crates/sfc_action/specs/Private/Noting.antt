@@ -42,7 +42,6 @@ pub record AreSame (a b : ControlState) : Type 0 where
   pub q : b.q ≡ a.q
   pub executed : b.executed ≡ a.executed
   pub blocks : b.blocks ≡ a.blocks
-  pub single : b.is_single ≡ a.is_single
   pub delays : b.notes.delays ≡ a.notes.delays
   pub has_acted : b.notes.has_acted ≡ a.notes.has_acted
 
@@ -60,7 +59,6 @@ pub record IsRestNoted (before after : ControlState) : Type 0 where
 
 -- what it was before the newest scan is noted
 pub record IsNoted (before after : ControlState) : Type 0 where
-  pub single : after.is_single ≡ before.is_single
   pub executed : after.notes.executed ≡ before.executed
   pub acted : after.notes.has_acted ≡ true → IsActNoted before after
   pub rested : after.notes.has_acted ≡ false → IsRestNoted before after

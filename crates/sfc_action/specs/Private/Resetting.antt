@@ -12,4 +12,3 @@ pub record IsReset (old new : ControlState) : Type 0 where
   pub executed : new.executed ≡ replicate (length old.q) false
   pub fresh : All IsNew new.blocks
   pub blocks : map delay_of new.blocks ≡ map delay_of old.blocks
-  pub single : new.is_single ≡ old.is_single

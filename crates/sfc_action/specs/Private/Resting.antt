@@ -4,9 +4,8 @@ use Rattle.sfc_flags.specs.Flags.{flag}
 use Rattle.sfc_action.specs.declared.control_state.ControlState.{ControlState}
 use Rattle.sfc_action.specs.Private.Live.{IsIdle}
 
--- no on-delay runs or has elapsed, no action with an input P has Q, and none has two associations by SD or SL
+-- no on-delay runs or has elapsed, and no action with an input P has Q
 pub record IsAtRest (state : ControlState) : Type 0 where
-  pub single : state.is_single ≡ true
   pub delays : All IsIdle state.blocks
   pub pulses : (a : ℕ) → (flag state.kept.pulse a && flag state.q a) ≡ false
 
@@ -16,4 +15,3 @@ pub record IsRested (old new : ControlState) : Type 0 where
   pub q : new.q ≡ old.q
   pub executed : new.executed ≡ old.q
   pub blocks : new.blocks ≡ old.blocks
-  pub single : new.is_single ≡ old.is_single
