@@ -1,16 +1,19 @@
 //! A stage on which the executed bodies of a scan are gone through once more.
 
 use crate::sfc_image::image::Image;
+use crate::sfc_image::output_memo::OutputMemo;
 
 /// The variables as they stood before the scan of an instance.
 pub struct Stage {
     image: Image,
+    // of no instance
+    memo: OutputMemo,
 }
 
 // By hand, so that a caller that drops one proves one call.
 impl Drop for Stage {
     fn drop(self) {
-        let Stage { image: _ } = self;
+        let Stage { image: _, memo: _ } = self;
     }
 }
 
@@ -22,9 +25,9 @@ ghost use Rattle.sfc_cover.specs.Stages.{IsStageOf};
 
 use crate::arms::Arms;
 use crate::look::chart_of;
+use crate::sfc_image::giving::GivenQ;
 use crate::sfc_instance::program_view::ProgramView;
 use crate::sfc_instances::instances::Instances;
-use crate::sfc_tables::tables::Tables;
 use crate::walk::{Acting, walk_statements};
 use sfc_base::ids::ActionNumber;
 use sfc_base::ticks::Ticks;
@@ -101,11 +104,12 @@ fn executes_body(view: &ProgramView<'_>, chart: &Chart) -> bool {
 
 impl Stage {
     /// One for a plant. The one error is that memory was refused.
-    pub fn new(alloc: Global, plant: &Plant, tables: &[Tables]) -> Result<Stage, AllocError>
+    pub fn new(alloc: Global, plant: &Plant) -> Result<Stage, AllocError>
         ensures { IfOk result (λ stage. IsStageOf plant.now stage) }
     {
         Ok(Stage {
-            image: Image::new(alloc, plant, tables)?,
+            image: Image::new(alloc, plant)?,
+            memo: OutputMemo::new(alloc, 0)?,
         })
     }
 
@@ -131,9 +135,13 @@ impl Stage {
             return;
         }
         let ticks = &mut Ticks::new();
+        let given = GivenQ {
+            tables: view.tables(),
+            q: view.q_flags(),
+        };
         self.image.begin();
         self.image
-            .assign_outputs(view.instance(), view.tables(), view.q_flags(), ticks);
+            .assign_outputs(view.instance(), given, &mut self.memo, ticks);
         let bodies = Bodies { chart, arms };
         let _ended = walk_actions(&mut self.image, marks, view, bodies);
         self.image.undo(ticks);

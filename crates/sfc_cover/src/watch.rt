@@ -55,7 +55,7 @@ impl Watch {
         ensures { IfOk result (λ watch. IsWatchOf plant.now watch) }
     {
         let elements = Elements::of_plant(alloc, plant)?;
-        let stage = Stage::new(alloc, plant, elements.tables())?;
+        let stage = Stage::new(alloc, plant)?;
         let reaches = unreached(alloc, &elements, plant.instances())?;
         Ok(Watch {
             elements,
@@ -69,7 +69,7 @@ impl Watch {
         ensures { IfOk result (λ watch. IsWatchOf plant.now watch) }
     {
         let elements = Elements::of_plant(alloc, plant)?;
-        let stage = Stage::new(alloc, plant, elements.tables())?;
+        let stage = Stage::new(alloc, plant)?;
         let reaches = self.reaches.clone()?;
         Ok(Watch {
             elements,

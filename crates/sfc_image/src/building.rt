@@ -5,16 +5,12 @@ ghost use Rattle.sfc_plant.specs.Image.{image_of};
 ghost use Rattle.sfc_plant.specs.Finding.{locals_at as locals_of_instance};
 ghost use Rattle.sfc_image.specs.Private.Keeping as keeping;
 ghost use Rattle.sfc_image.specs.Private.Keeping.{locals_at};
-ghost use Rattle.sfc_image.specs.Private.OutputMemos.{memo_at};
 
-use crate::output_memo::OutputMemo;
 use crate::slot::{Locals, Slot, fresh_slot};
-use sfc_flags::flags::Flags;
 use sfc_plant::image::locals_of;
 use sfc_plant::instance::Instance;
 use sfc_plant::program_type::ProgramType;
 use sfc_plant::variable::Variable;
-use sfc_tables::tables::Tables;
 use std::alloc::{AllocError, Global};
 
 // A slot for each of these variables, behind others.
@@ -55,32 +51,4 @@ pub fn build(
         add_slots(&mut slots, variables)?;
     }
     Ok((slots, locals))
-}
-
-// How many actions the type of an instance has.
-fn actions_of(tables: &[Tables], instance: &Instance) -> usize {
-    match tables.get(instance.program.0) {
-        Some(tables) => tables.actions(),
-        None => 0,
-    }
-}
-
-/// A memo for each instance of what it gives its outputs; nothing was given yet. The one error is that memory was
-/// refused.
-pub fn build_memos(
-    alloc: Global,
-    tables: &[Tables],
-    instances: &[Instance],
-) -> Result<Vec<OutputMemo>, AllocError>
-    ensures instances { IfOk result (λ memos. length memos.items ≡ length instances.now) }
-    ensures none { IfOk result (λ memos. (k : ℕ) → k < length memos.items → (memo_at memos.items k).generation ≡ 0) }
-{
-    let mut memos = Vec::new(alloc);
-    for k in 0..instances.len() {
-        memos.push(OutputMemo {
-            q: Flags::new(alloc, actions_of(tables, &instances[k]))?,
-            generation: 0,
-        })?;
-    }
-    Ok(memos)
 }

@@ -1,10 +1,8 @@
 //! What one image takes over from another.
 
-ghost use Rattle.std.specs.Prelude.{◌≡◌, ◌<◌, ℕ, length};
+ghost use Rattle.std.specs.Prelude.{◌≡◌, length};
 ghost use Rattle.sfc_base.specs.Ticks.{Within};
-ghost use Rattle.sfc_image.specs.Private.OutputMemos.{memo_at};
 
-use crate::output_memo::OutputMemo;
 use crate::slot::{Locals, Slot};
 use sfc_base::ticks::Ticks;
 
@@ -30,23 +28,14 @@ pub fn copy_slots(
     }
 }
 
-/// Takes over where the locals of the instances are, and forgets what was given to their outputs.
-pub fn copy_locals(
-    locals: &mut [Locals],
-    memos: &mut [OutputMemo],
-    from: &[Locals],
-    ticks: &mut Ticks,
-)
+/// Takes over where the locals of the instances are.
+pub fn copy_locals(locals: &mut [Locals], from: &[Locals], ticks: &mut Ticks)
     requires from_len { length from.now ≡ length locals.old }
-    requires memos_len { length memos.old ≡ length locals.old }
     ensures locals { locals.new ≡ from.now }
-    ensures memos_len { length memos.new ≡ length memos.old }
-    ensures memos { (k : ℕ) → k < length memos.new → (memo_at memos.new k).generation ≡ 0 }
     ensures ticks { Within (length locals.old) ticks.old ticks.new }
 {
     for k in 0..locals.len() {
         ticks.tick();
         locals[k] = from[k];
-        memos[k].generation = 0;
     }
 }

@@ -28,6 +28,13 @@ use sfc_flags::flags::Flags;
 use sfc_plant::association::Target;
 use sfc_tables::tables::Tables;
 
+/// The actions of a chart, by its tables, and the Q of each by its number.
+#[derive(Clone, Copy)]
+pub struct GivenQ<'a> {
+    pub tables: &'a Tables,
+    pub q: &'a Flags,
+}
+
 /// The outputs of an instance: where the globals end and where its locals are, the tables of its chart, the Q of each
 /// action, and whether a transaction is open.
 #[derive(Clone, Copy)]

@@ -3,11 +3,11 @@
 ghost use Rattle.std.specs.Prelude.{◌≡◌, length};
 ghost use Rattle.sfc_image.specs.Private.Keeping.{AreTracked, AreWithin};
 
-use crate::building::{build, build_memos};
+use crate::building::build;
 use crate::closing::{begin_all, close_all};
 use crate::copying::{copy_locals, copy_slots};
 use crate::finding::find_statement;
-use crate::giving::Outputs;
+use crate::giving::{GivenQ, Outputs};
 use crate::image_error::ImageError;
 use crate::output_memo::{OutputMemo, begin_generation, begin_generation_if};
 use crate::slot::{Locals, Slot, as_output, value_fault, with_force, with_value};
@@ -22,28 +22,24 @@ use sfc_base::value::Value;
 use sfc_expr::exec::exec;
 use sfc_expr::fault::Fault;
 use sfc_expr::statement::Statement;
-use sfc_flags::flags::Flags;
 use sfc_plant::association::Target;
 use sfc_plant::plant::Plant;
-use sfc_tables::tables::Tables;
 use std::alloc::{AllocError, Global};
 
 /// The stored and the forced values of a plant's variables. Where a transaction is open, what is stored may still be
 /// undone: the variables that were written since then are listed, each once.
 ///
-/// Of each instance it is known what it last gave its outputs, the variables of its Boolean actions. That holds until
-/// the value of some output changes, which begins another generation.
+/// What an instance last gave its outputs, the variables of its Boolean actions, is what they have until the value of some output changes
+/// otherwise, which begins another generation.
 pub struct Image {
     slots: Vec<Slot>,
     locals: Vec<Locals>,
     written: Vec<usize>,
     count: usize,
     is_trying: bool,
-    memos: Vec<OutputMemo>,
     generation: u64,
     ghost tracked: { AreTracked slots.items written.items count },
     ghost within: { AreWithin (length slots.items) locals.items },
-    ghost sized: { length memos.items ≡ length locals.items },
 }
 
 // By hand, so that a caller that drops one proves one call.
@@ -55,7 +51,6 @@ impl Drop for Image {
             written: _,
             count: _,
             is_trying: _,
-            memos: _,
             generation: _,
         } = self;
     }
@@ -84,14 +79,13 @@ impl Image {
     ghost use Rattle.sfc_plant.specs.Finding.{chart_of};
     ghost use Rattle.sfc_image.specs.Private.Keeping as keeping;
     ghost use Rattle.sfc_image.specs.Private.Keeping.{IsPut, slot_at};
-    ghost use Rattle.sfc_image.specs.Private.OutputMemos.{memo_at, HasQ, IsAssigned, Stays};
+    ghost use Rattle.sfc_image.specs.Private.OutputMemos.{HasQ, IsAssigned, Stays};
     ghost use Rattle.sfc_image.specs.Answers.{Answers, read_answer, value_fault, release_fault};
-    ghost use Rattle.sfc_image.specs.Agreement.{ImageAgrees, IsAsLarge, environment_in, variable_total, instance_total, written_total, is_open};
+    ghost use Rattle.sfc_image.specs.Agreement.{ImageAgrees, IsAsLarge, environment_in, variable_total, instance_total, written_total, is_open, MemoHolds, KeepsMemos};
 
-    /// The variables of the plant with their initial values; none is forced, and no transaction is open. `tables` are
-    /// those of each program type: they tell how many actions each instance has. The one error is that memory was
+    /// The variables of the plant with their initial values; none is forced, and no transaction is open. The one error is that memory was
     /// refused; no later call takes any.
-    pub fn new(alloc: Global, plant: &Plant, tables: &[Tables]) -> Result<Image, AllocError>
+    pub fn new(alloc: Global, plant: &Plant) -> Result<Image, AllocError>
         ensures variables { IfOk result (λ image. variable_total image ≡ variable_count plant.now) }
         ensures instances { IfOk result (λ image. instance_total image ≡ length plant.now.instances) }
         ensures closed { IfOk result (λ image. is_open image ≡ false) }
@@ -100,14 +94,12 @@ impl Image {
     {
         let (slots, locals) = build(alloc, plant.globals(), plant.types(), plant.instances())?;
         let written = vec![in alloc; 0; slots.len()]?;
-        let memos = build_memos(alloc, tables, plant.instances())?;
         Ok(Image {
             slots,
             locals,
             written,
             count: 0,
             is_trying: false,
-            memos,
             generation: 1,
         })
     }
@@ -204,6 +196,7 @@ impl Image {
     ) -> Result<(), Fault>
         requires instance { instance.0 < instance_total self.old }
         ensures large { IsAsLarge self.old self.new }
+        ensures memos { KeepsMemos self.old self.new }
         ensures open { is_open self.new ≡ is_open self.old }
         ensures result { (plant : PlantData) (changes : Changes) → ImageAgrees plant self.old changes →
             result ≡ (effect (body_of body.now) (environment_of plant (all_of changes) instance (moment_of steps.entry q))).result }
@@ -237,6 +230,7 @@ impl Image {
     ) -> Option<usize>
         requires instance { instance.0 < instance_total self.old }
         ensures large { IsAsLarge self.old self.new }
+        ensures memos { KeepsMemos self.old self.new }
         ensures open { is_open self.new ≡ is_open self.old }
         ensures result { (plant : PlantData) (changes : Changes) → ImageAgrees plant self.old changes →
             result ≡ faulty_statement (body_of body.now) (environment_of plant (all_of changes) instance (moment_of steps.entry q)) }
@@ -274,7 +268,6 @@ impl Image {
         requires { i < variable_total self.old }
         ensures large { IsAsLarge self.old self.new }
         ensures open { is_open self.new ≡ is_open self.old }
-        ensures memos { self.new.memos.items ≡ self.old.memos.items }
         ensures slots { self.new.slots.items ≡ slice_set self.old.slots.items i (keeping.as_output (slot_at self.old.slots.items i)) }
         ensures agrees { (plant : PlantData) (changes : Changes) → ImageAgrees plant self.old changes → ImageAgrees plant self.new changes }
     {
@@ -285,8 +278,8 @@ impl Image {
     fn give(&mut self, instance: ProgId, target: Target, q: bool)
         requires instance { instance.0 < instance_total self.old }
         ensures large { IsAsLarge self.old self.new }
+        ensures memos { KeepsMemos self.old self.new }
         ensures open { is_open self.new ≡ is_open self.old }
-        ensures memos { self.new.memos.items ≡ self.old.memos.items }
         ensures agrees { (plant : PlantData) (changes : Changes) → ImageAgrees plant self.old changes →
             ImageAgrees plant self.new (with_changes (output plant instance target q) changes) }
         ensures here { (plant : PlantData) (changes : Changes) (v : Variable) (i : ℕ) → ImageAgrees plant self.old changes →
@@ -303,149 +296,111 @@ impl Image {
         }
     }
 
-    // Whether what was last given to the outputs of the instance holds, where it has as many actions as this Q.
-    fn holds_memo(&self, instance: ProgId, q: &Flags) -> bool
-        requires { instance.0 < instance_total self.now }
-        ensures generation { result ≡ true → (memo_at self.now.memos.items instance.0).generation ≡ self.now.generation }
-        ensures sized { result ≡ true → length (memo_at self.now.memos.items instance.0).q ≡ length q.now }
-        ensures few { result ≡ true → length q.now < 2 ^ 64 }
-    {
-        let memo = &self.memos[instance.0 as usize];
-        memo.generation == self.generation && memo.q.count() == q.count()
-    }
-
-    // What was last given to the outputs of the instance doesn't count as given any more.
-    fn drop_memo(&mut self, instance: ProgId)
-        requires { instance.0 < instance_total self.old }
-        ensures large { IsAsLarge self.old self.new }
-        ensures open { is_open self.new ≡ is_open self.old }
-        ensures slots { self.new.slots.items ≡ self.old.slots.items }
-        ensures generation { (memo_at self.new.memos.items instance.0).generation ≡ 0 }
-        ensures q { (memo_at self.new.memos.items instance.0).q ≡ (memo_at self.old.memos.items instance.0).q }
-        ensures agrees { (plant : PlantData) (changes : Changes) → ImageAgrees plant self.old changes → ImageAgrees plant self.new changes }
-    {
-        self.memos[instance.0 as usize].generation = 0;
-    }
-
-    // Notes the Q that was given to the variable of an action, if there is room for it.
-    fn note_if_room(&mut self, instance: ProgId, action: usize, q: bool)
-        requires instance { instance.0 < instance_total self.old }
-        requires taken { (memo_at self.old.memos.items instance.0).generation ≡ 0 }
-        ensures large { IsAsLarge self.old self.new }
-        ensures open { is_open self.new ≡ is_open self.old }
-        ensures slots { self.new.slots.items ≡ self.old.slots.items }
-        ensures generation { (memo_at self.new.memos.items instance.0).generation ≡ 0 }
-        ensures sized { length (memo_at self.new.memos.items instance.0).q ≡ length (memo_at self.old.memos.items instance.0).q }
-        ensures q { (a : ℕ) → a < length (memo_at self.old.memos.items instance.0).q →
-            flag (memo_at self.new.memos.items instance.0).q a
-            ≡ cond (a == action) q (flag (memo_at self.old.memos.items instance.0).q a) }
-        ensures agrees { (plant : PlantData) (changes : Changes) → ImageAgrees plant self.old changes → ImageAgrees plant self.new changes }
-    {
-        self.memos[instance.0 as usize].note(action, q);
-    }
-
-    // What was noted is what the outputs of the instance have now, if all actions had room.
-    fn leave_memo(&mut self, instance: ProgId, q: &Flags)
-        requires { instance.0 < instance_total self.old }
-        ensures large { IsAsLarge self.old self.new }
-        ensures open { is_open self.new ≡ is_open self.old }
-        ensures agrees { (plant : PlantData) (changes : Changes) → ImageAgrees plant self.old changes →
-            (length (memo_at self.old.memos.items instance.0).q ≡ length q.now → (a : ℕ) →
-            HasQ plant instance self.old.slots.items a (flag (memo_at self.old.memos.items instance.0).q a)) →
-            ImageAgrees plant self.new changes }
-    {
-        let generation = self.generation;
-        let memo = &mut self.memos[instance.0 as usize];
-        if generation < u64::MAX && memo.q.count() == q.count() {
-            memo.generation = generation;
-        }
-    }
-
     // Gives their Q to those actions that have another one now than they were last given.
     #[inline(always)]
-    fn give_changed(&mut self, instance: ProgId, tables: &Tables, q: &Flags, ticks: &mut Ticks)
+    fn give_changed(
+        &mut self,
+        instance: ProgId,
+        given: GivenQ<'_>,
+        memo: &mut OutputMemo,
+        ticks: &mut Ticks,
+    )
         requires instance { instance.0 < instance_total self.old }
-        requires q { length q.now ≡ length tables.now.actions }
-        requires sized { length (memo_at self.old.memos.items instance.0).q ≡ length q.now }
-        requires given { (plant : PlantData) (changes : Changes) (a : ℕ) → ImageAgrees plant self.old changes →
-            HasQ plant instance self.old.slots.items a (flag (memo_at self.old.memos.items instance.0).q a) }
-        requires few { length q.now < 2 ^ 64 }
+        requires q { length given.q.now ≡ length given.tables.now.actions }
+        requires sized { length memo.old.q ≡ length given.q.now }
+        requires few { length given.q.now < 2 ^ 64 }
         ensures large { IsAsLarge self.old self.new }
         ensures open { is_open self.new ≡ is_open self.old }
-        ensures agrees { (plant : PlantData) (changes : Changes) → tables.now ≡ tables_of (chart_of plant instance) →
-            ImageAgrees plant self.old changes →
-            ImageAgrees plant self.new (with_changes (outputs plant instance q.now 0 tables.now.actions) changes) }
-        ensures ticks { Within (length q.now) ticks.old ticks.new }
+        ensures agrees { (plant : PlantData) (changes : Changes) → given.entry.tables.now ≡ tables_of (chart_of plant instance) →
+            ImageAgrees plant self.old changes → ((a : ℕ) → HasQ plant instance self.old.slots.items a (flag memo.old.q a)) →
+            ImageAgrees plant self.new (with_changes (outputs plant instance given.entry.q.now 0 given.entry.tables.now.actions) changes) }
+        ensures memo { (plant : PlantData) (changes : Changes) → given.entry.tables.now ≡ tables_of (chart_of plant instance) →
+            ImageAgrees plant self.old changes → ((a : ℕ) → HasQ plant instance self.old.slots.items a (flag memo.old.q a)) →
+            MemoHolds plant self.old instance memo.old → MemoHolds plant self.new instance memo.new }
+        ensures others { KeepsMemos self.old self.new }
+        ensures ticks { Within (length given.entry.q.now) ticks.old ticks.new }
     {
         let outputs = Outputs {
             globals: self.locals[0].first,
             locals: self.locals[instance.0 as usize],
-            tables,
-            q,
+            tables: given.tables,
+            q: given.q,
             is_open: self.is_trying,
         };
         let (count, has_given) = outputs.give_differing(
             &mut self.slots,
             &mut self.written,
             self.count,
-            &mut self.memos[instance.0 as usize],
+            memo,
             ticks,
         );
         self.count = count;
         if has_given {
             begin_generation(&mut self.generation);
-            self.leave_memo(instance, q);
+            memo.hold(self.generation);
         }
     }
 
     // Gives all actions their Q.
     #[inline(never)]
-    fn give_all(&mut self, instance: ProgId, tables: &Tables, q: &Flags, ticks: &mut Ticks)
+    fn give_all(
+        &mut self,
+        instance: ProgId,
+        given: GivenQ<'_>,
+        memo: &mut OutputMemo,
+        ticks: &mut Ticks,
+    )
         requires instance { instance.0 < instance_total self.old }
-        requires q { length q.now ≡ length tables.now.actions }
+        requires q { length given.q.now ≡ length given.tables.now.actions }
         ensures large { IsAsLarge self.old self.new }
         ensures open { is_open self.new ≡ is_open self.old }
-        ensures agrees { (plant : PlantData) (changes : Changes) → tables.now ≡ tables_of (chart_of plant instance) →
+        ensures agrees { (plant : PlantData) (changes : Changes) → given.entry.tables.now ≡ tables_of (chart_of plant instance) →
             ImageAgrees plant self.old changes →
-            ImageAgrees plant self.new (with_changes (outputs plant instance q.now 0 tables.now.actions) changes) }
-        ensures ticks { Within (length q.now) ticks.old ticks.new }
+            ImageAgrees plant self.new (with_changes (outputs plant instance given.entry.q.now 0 given.entry.tables.now.actions) changes) }
+        ensures memo { (plant : PlantData) (changes : Changes) → given.entry.tables.now ≡ tables_of (chart_of plant instance) →
+            ImageAgrees plant self.old changes → MemoHolds plant self.new instance memo.new }
+        ensures others { KeepsMemos self.old self.new }
+        ensures ticks { Within (length given.entry.q.now) ticks.old ticks.new }
     {
-        self.drop_memo(instance);
-        let mut action = 0;
-        'outputs: while action < q.count() {
+        memo.forget();
+        for action in 0..given.q.count() {
             ticks.tick();
-            let is_set = q.get(action);
-            self.give(instance, tables.target(ActionNumber(action)), is_set);
-            self.note_if_room(instance, action, is_set);
-            action += 1;
+            let q = given.q.get(action);
+            self.give(instance, given.tables.target(ActionNumber(action)), q);
+            memo.note(action, q);
         }
-        self.leave_memo(instance, q);
+        if memo.q.count() == given.q.count() {
+            memo.hold(self.generation);
+        }
     }
 
     /// Assigns its Q to each variable of the instance's program that is an action by itself (2.6.4.1), one after the
-    /// other, in the transaction where one is open, else for good; the Q of each action stands by its number. It takes no memory. Where
-    /// no output was changed since the instance's last call, only those are handled whose Q is another now.
+    /// other, in the transaction where one is open, else for good. It takes no memory. Where no output was changed since the instance's
+    /// last call, as its memo tells, only those are handled whose Q is another now; the memo is then of this call.
     #[inline(always)]
     pub fn assign_outputs(
         &mut self,
         instance: ProgId,
-        tables: &Tables,
-        q: &Flags,
+        given: GivenQ<'_>,
+        memo: &mut OutputMemo,
         ticks: &mut Ticks,
     )
         requires instance { instance.0 < instance_total self.old }
-        requires q { length q.now ≡ length tables.now.actions }
+        requires q { length given.q.now ≡ length given.tables.now.actions }
         ensures large { IsAsLarge self.old self.new }
         ensures open { is_open self.new ≡ is_open self.old }
-        ensures agrees { (plant : PlantData) (changes : Changes) → tables.now ≡ tables_of (chart_of plant instance) →
-            ImageAgrees plant self.old changes →
-            ImageAgrees plant self.new (with_changes (outputs plant instance q.now 0 tables.now.actions) changes) }
-        ensures ticks { Within (length tables.now.actions) ticks.old ticks.new }
+        ensures agrees { (plant : PlantData) (changes : Changes) → given.entry.tables.now ≡ tables_of (chart_of plant instance) →
+            ImageAgrees plant self.old changes → MemoHolds plant self.old instance memo.old →
+            ImageAgrees plant self.new (with_changes (outputs plant instance given.entry.q.now 0 given.entry.tables.now.actions) changes) }
+        ensures memo { (plant : PlantData) (changes : Changes) → given.entry.tables.now ≡ tables_of (chart_of plant instance) →
+            ImageAgrees plant self.old changes → MemoHolds plant self.old instance memo.old → MemoHolds plant self.new instance memo.new }
+        ensures others { KeepsMemos self.old self.new }
+        ensures ticks { Within (length given.entry.tables.now.actions) ticks.old ticks.new }
     {
-        if self.holds_memo(instance, q) {
-            self.give_changed(instance, tables, q, ticks);
+        if memo.is_of(self.generation) && memo.q.count() == given.q.count() {
+            self.give_changed(instance, given, memo, ticks);
         } else {
-            self.give_all(instance, tables, q, ticks);
+            self.give_all(instance, given, memo, ticks);
         }
     }
 
@@ -498,7 +453,6 @@ impl Image {
         ensures open { is_open self.new ≡ is_open self.old }
         ensures written { written_total self.new ≤ written_total self.old + 1 }
         ensures put { IsPut i value self.old.slots.items self.new.slots.items }
-        ensures memos { self.new.memos.items ≡ self.old.memos.items }
         ensures agrees { (plant : PlantData) (changes : Changes) → ImageAgrees plant self.old changes →
             ImageAgrees plant self.new (with_change (Stored (record { 0 = i }) value) changes) }
     {
@@ -519,6 +473,7 @@ impl Image {
     /// changes.
     pub fn store(&mut self, id: VarId, value: Value, ticks: &mut Ticks) -> Result<(), ImageError>
         ensures large { IsAsLarge self.old self.new }
+        ensures memos { KeepsMemos self.old self.new }
         ensures open { is_open self.new ≡ is_open self.old }
         ensures answer { (plant : PlantData) (changes : Changes) → ImageAgrees plant self.old changes →
             Answers result (value_fault plant id value) }
@@ -542,6 +497,7 @@ impl Image {
     pub fn force(&mut self, id: VarId, value: Value, ticks: &mut Ticks) -> Result<(), ImageError>
         requires { is_open self.old ≡ false }
         ensures large { IsAsLarge self.old self.new }
+        ensures memos { KeepsMemos self.old self.new }
         ensures open { is_open self.new ≡ false }
         ensures answer { (plant : PlantData) (changes : Changes) → ImageAgrees plant self.old changes →
             Answers result (value_fault plant id value) }
@@ -564,6 +520,7 @@ impl Image {
     pub fn release(&mut self, id: VarId, ticks: &mut Ticks) -> Result<(), ImageError>
         requires { is_open self.old ≡ false }
         ensures large { IsAsLarge self.old self.new }
+        ensures memos { KeepsMemos self.old self.new }
         ensures open { is_open self.new ≡ false }
         ensures answer { (plant : PlantData) (changes : Changes) → ImageAgrees plant self.old changes →
             Answers result (release_fault plant (all_of changes) id) }
@@ -590,6 +547,7 @@ impl Image {
         requires instance { instance.0 < instance_total self.old }
         requires closed { is_open self.old ≡ false }
         ensures large { IsAsLarge self.old self.new }
+        ensures memos { KeepsMemos self.old self.new }
         ensures open { is_open self.new ≡ false }
         ensures agrees { (plant : PlantData) (committed : List Change) → ImageAgrees plant self.old (settled committed) →
             ImageAgrees plant self.new (settled (Reset instance ∷ committed)) }
@@ -606,6 +564,7 @@ impl Image {
     pub fn begin(&mut self)
         requires { is_open self.old ≡ false }
         ensures large { IsAsLarge self.old self.new }
+        ensures memos { KeepsMemos self.old self.new }
         ensures open { is_open self.new ≡ true }
         ensures agrees { (plant : PlantData) (committed : List Change) → ImageAgrees plant self.old (settled committed) →
             ImageAgrees plant self.new (trying committed []) }
@@ -619,6 +578,7 @@ impl Image {
     pub fn commit(&mut self, ticks: &mut Ticks)
         requires { is_open self.old ≡ true }
         ensures large { IsAsLarge self.old self.new }
+        ensures memos { KeepsMemos self.old self.new }
         ensures open { is_open self.new ≡ false }
         ensures agrees { (plant : PlantData) (committed tried : List Change) → ImageAgrees plant self.old (trying committed tried) →
             ImageAgrees plant self.new (settled (tried ++ committed)) }
@@ -636,6 +596,7 @@ impl Image {
     pub fn undo(&mut self, ticks: &mut Ticks)
         requires { is_open self.old ≡ true }
         ensures large { IsAsLarge self.old self.new }
+        ensures memos { KeepsMemos self.old self.new }
         ensures open { is_open self.new ≡ false }
         ensures agrees { (plant : PlantData) (committed tried : List Change) → ImageAgrees plant self.old (trying committed tried) →
             ImageAgrees plant self.new (settled committed) }
@@ -654,6 +615,7 @@ impl Image {
     pub fn copy_from(&mut self, other: &Image, ticks: &mut Ticks)
         requires { IsAsLarge other.now self.old }
         ensures large { IsAsLarge self.old self.new }
+        ensures memos { KeepsMemos self.old self.new }
         ensures open { is_open self.new ≡ is_open other.now }
         ensures agrees { (plant : PlantData) (changes : Changes) → ImageAgrees plant other.now changes →
             ImageAgrees plant self.new changes }
@@ -666,9 +628,9 @@ impl Image {
             &other.written,
             ticks,
         );
-        copy_locals(&mut self.locals, &mut self.memos, &other.locals, ticks);
+        copy_locals(&mut self.locals, &other.locals, ticks);
         self.count = other.count;
         self.is_trying = other.is_trying;
-        self.generation = 1;
+        begin_generation(&mut self.generation);
     }
 }

@@ -3,10 +3,16 @@
 ghost use Rattle.std.specs.Prelude.{◌≡◌, ◌<◌, ◌≤◌, ◌==◌, ℕ, cond, false, length, IfOk};
 ghost use Rattle.sfc_flags.specs.Flags.{flag};
 ghost use Rattle.sfc_flags.specs.Words.{has, word_count, word_of, ArePut};
-ghost use Rattle.sfc_image.specs.Private.OutputMemos.{IsLater, IsGenerationAfter};
+ghost use Rattle.sfc_image.specs.Private.OutputMemos.{IsLater, IsGenerationAfter, last_generation};
+ghost use Rattle.sfc_image.specs.declared.image.Image.{Image};
+ghost use Rattle.sfc_image.specs.Changes.{Changes};
+ghost use Rattle.sfc_image.specs.Agreement.{ImageAgrees, MemoHolds, memo_total};
+ghost use Rattle.sfc_plant.specs.Plants.{PlantData};
+ghost use Rattle.sfc_base.specs.declared.ids.ProgId.{ProgId};
 
 use sfc_flags::flags::Flags;
 use sfc_flags::word::Word;
+use std::alloc::{AllocError, Global};
 
 /// The Q that was last given to the variable of each action, by the action's number, and the generation of the image in
 /// which that was; 0 where nothing is known to hold.
@@ -17,6 +23,43 @@ pub struct OutputMemo {
 }
 
 impl OutputMemo {
+    /// For so many actions, to which nothing was given yet. The one error is that memory was refused.
+    pub fn new(alloc: Global, actions: usize) -> Result<OutputMemo, AllocError>
+        ensures size { IfOk result (λ memo. memo_total memo ≡ actions) }
+        ensures holds { IfOk result (λ memo. (plant : PlantData) (image : Image) (changes : Changes) (p : ProgId) →
+            ImageAgrees plant image changes → MemoHolds plant image p memo) }
+    {
+        Ok(OutputMemo {
+            q: Flags::new(alloc, actions)?,
+            generation: 0,
+        })
+    }
+
+    /// Whether it is what was given in this generation.
+    pub fn is_of(&self, generation: u64) -> bool
+        ensures { result ≡ (self.now.generation == generation) }
+    {
+        self.generation == generation
+    }
+
+    /// It is what was given in this generation; in the last one nothing is known to hold.
+    pub fn hold(&mut self, generation: u64)
+        ensures generation { self.new.generation ≡ cond (generation == last_generation) self.old.generation generation }
+        ensures q { self.new.q ≡ self.old.q }
+    {
+        if generation < u64::MAX {
+            self.generation = generation;
+        }
+    }
+
+    /// Nothing is known to hold.
+    pub fn forget(&mut self)
+        ensures generation { self.new.generation ≡ 0 }
+        ensures q { self.new.q ≡ self.old.q }
+    {
+        self.generation = 0;
+    }
+
     /// Notes the Q of an action, if there is room for it.
     pub fn note(&mut self, action: usize, q: bool)
         ensures generation { self.new.generation ≡ self.old.generation }

@@ -3,6 +3,10 @@ use Rattle.std.specs.Prelude.{ℕ, ℤ, ◌≡◌, [], length, Option, Some, Non
 use Rattle.sfc_tables.specs.Tables.{Tabled}
 use Rattle.sfc_evolve.specs.Agreement as evolve
 use Rattle.sfc_action.specs.Agreement as action
+use Rattle.sfc_base.specs.declared.ids.ProgId.{ProgId}
+use Rattle.sfc_plant.specs.Plants.{PlantData}
+use Rattle.sfc_image.specs.declared.image.Image.{Image}
+use Rattle.sfc_image.specs.Agreement.{MemoHolds}
 use Rattle.sfc_instance.specs.declared.state.State.{State}
 use Rattle.sfc_instance.specs.declared.scan_buffers.ScanBuffers.{ScanBuffers}
 use Rattle.sfc_instance.specs.declared.scan_run.ScanRun.{ScanRun}
@@ -88,3 +92,7 @@ pub record Keeps (tables : Tabled) (program : Program) (instance_state : Instanc
 -- all answers are those of an instance that stands so
 unfoldable pub ProgramAgrees : Tabled → Program → InstanceState → Type 0
 ProgramAgrees tables program instance_state = Keeps tables program instance_state
+
+-- what it last gave its outputs is so in the image, as long as the image says that it holds
+unfoldable pub ProgramHolds : PlantData → Image → ProgId → Program → Type 0
+ProgramHolds plant image p program = MemoHolds plant image p program.run.memo

@@ -5,9 +5,10 @@ ghost use Rattle.sfc_expr.specs.Trees.{body_of as statements_body};
 ghost use Rattle.sfc_plant.specs.declared.association.Target.TheVariants.{Declared};
 ghost use Rattle.sfc_expr.specs.Nodes.{body_nodes};
 ghost use Rattle.sfc_base.specs.Ticks.{Within};
+ghost use Rattle.sfc_flags.specs.Flags.{flag};
 ghost use Rattle.sfc_plant.specs.Plants.{PlantData};
 ghost use Rattle.sfc_image.specs.Changes.{Change, settled, trying};
-ghost use Rattle.sfc_image.specs.Agreement.{ImageAgrees, IsAsLarge, instance_total, variable_total, is_open};
+ghost use Rattle.sfc_image.specs.Agreement.{ImageAgrees, IsAsLarge, MemoHolds, KeepsMemos, instance_total, variable_total, is_open};
 ghost use Rattle.sfc_instance.specs.Life.{Life, evolution_rows};
 ghost use Rattle.sfc_tables.specs.Tables.{Tabled, tables_of};
 ghost use Rattle.sfc_evolve.specs.Evolution.{active_steps};
@@ -26,7 +27,9 @@ use sfc_base::ids::{ActionId, ActionNumber};
 use sfc_base::ticks::Ticks;
 use sfc_expr::fault::Fault;
 use sfc_expr::statement::Statement;
+use sfc_image::giving::GivenQ;
 use sfc_image::image::Image;
+use sfc_image::output_memo::OutputMemo;
 use sfc_image::step_readings::StepReadings;
 use sfc_plant::chart::Chart;
 
@@ -36,6 +39,21 @@ pub struct Acting<'a> {
     pub context: ProgramContext<'a>,
     pub state: &'a State,
     pub steps: StepReadings<'a>,
+}
+
+impl<'a> Acting<'a> {
+    /// What it gives its outputs.
+    pub fn given(self) -> GivenQ<'a>
+        ensures tables { result.tables.now ≡ self.context.tables.now }
+        ensures len { length result.q.now ≡ action_total self.state.now.controls }
+        ensures q { (tables : Tabled) (scans : List control.Scan) (a : ℕ) → a < action_total self.state.now.controls →
+            ControlsAgree tables self.state.now.controls scans → flag result.q.now a ≡ control.q tables a scans }
+    {
+        GivenQ {
+            tables: self.context.tables,
+            q: self.state.controls.q_flags(),
+        }
+    }
 }
 
 /// The statements of a declared action.
@@ -60,6 +78,7 @@ fn act_one(
     requires action { action.0 < length acting.context.tables.now.actions }
     requires instance { acting.context.instance.0 < instance_total image.old }
     ensures large { IsAsLarge image.old image.new }
+    ensures memos { KeepsMemos image.old image.new }
     ensures open { is_open image.new ≡ is_open image.old }
     ensures agrees { (plant : PlantData) (life : Life) (t : ℤ) (committed tried : List Change) →
         IsAfter plant acting.entry life t → ImageAgrees plant image.old (trying committed tried) → Acts plant committed image.new (kind_in result)
@@ -104,6 +123,7 @@ fn act(acting: Acting<'_>, image: &mut Image, from: usize, ticks: &mut Ticks) ->
     requires instance { acting.context.instance.0 < instance_total image.old }
     requires low { length acting.context.tables.now.actions ≤ from + length acting.context.chart.now.actions }
     ensures large { IsAsLarge image.old image.new }
+    ensures memos { KeepsMemos image.old image.new }
     ensures open { is_open image.new ≡ is_open image.old }
     ensures agrees { (plant : PlantData) (life : Life) (t : ℤ) (committed tried : List Change) → IsAfter plant acting.entry life t →
         ImageAgrees plant image.old (trying committed tried) → Acts plant committed image.new (kind_in result)
@@ -128,6 +148,7 @@ fn act(acting: Acting<'_>, image: &mut Image, from: usize, ticks: &mut Ticks) ->
 fn begin_if(image: &mut Image, is_wanted: bool)
     requires { is_open image.old ≡ false }
     ensures large { IsAsLarge image.old image.new }
+    ensures memos { KeepsMemos image.old image.new }
     ensures open { is_open image.new ≡ is_wanted }
     ensures begun { is_wanted ≡ true → (plant : PlantData) (committed : List Change) →
         ImageAgrees plant image.old (settled committed) → ImageAgrees plant image.new (trying committed []) }
@@ -143,6 +164,7 @@ fn begin_if(image: &mut Image, is_wanted: bool)
 fn close(image: &mut Image, keep: bool, ticks: &mut Ticks)
     requires { is_open image.old ≡ true }
     ensures large { IsAsLarge image.old image.new }
+    ensures memos { KeepsMemos image.old image.new }
     ensures closed { is_open image.new ≡ false }
     ensures agrees { keep ≡ true → (plant : PlantData) (committed tried : List Change) →
         ImageAgrees plant image.old (trying committed tried) → ImageAgrees plant image.new (settled (tried ++ committed)) }
@@ -157,45 +179,42 @@ fn close(image: &mut Image, keep: bool, ticks: &mut Ticks)
     }
 }
 
-/// What the actions do after a scan at t that left these steps and this action control: the variables of the Boolean ones are assigned all
-/// at once, and then the declared ones follow, one after the other; the first fault of a body ends them. After it the variables are as
-/// before: a transaction is opened where a body is executed, since nothing else can fault.
+/// What the actions do after a scan that left these steps and this action control: the variables of the Boolean ones are assigned all at
+/// once, and then the declared ones follow, one after the other; the first fault of a body ends them. After it the variables are as before:
+/// a transaction is opened where a body is executed, since nothing else can fault. The memo is of what the instance last gave its outputs.
 pub fn act_or_undo(
-    context: ProgramContext<'_>,
-    state: &State,
+    acting: Acting<'_>,
     image: &mut Image,
-    t: i64,
+    memo: &mut OutputMemo,
     ticks: &mut Ticks,
 ) -> Result<(), Fault>
-    requires tables { context.tables.now ≡ tables_of context.chart.now }
-    requires state { IsStateFor context.tables.now state.now }
-    requires instance { context.instance.0 < instance_total image.old }
+    requires tables { acting.context.tables.now ≡ tables_of acting.context.chart.now }
+    requires state { IsStateFor acting.context.tables.now acting.state.now }
+    requires instance { acting.context.instance.0 < instance_total image.old }
     requires closed { is_open image.old ≡ false }
-    requires low { pos 0 ≤ℤ t }
-    requires high { t ≤ℤ pos (2 ^ 62) }
     ensures large { IsAsLarge image.old image.new }
     ensures closed { is_open image.new ≡ false }
-    ensures agrees { (plant : PlantData) (life : Life) (changes : List Change) → IsContextOf plant context.entry →
-        StateAgrees context.entry.tables.now state.now life → ImageAgrees plant image.old (settled changes) → HasActed plant changes image.new result
-        (after_actions plant context.entry.instance life t 0 context.entry.tables.now.actions changes) }
-    ensures ticks { Within (actions_work context.entry.chart.now context.entry.tables.now.actions + variable_total image.old)
+    ensures agrees { (plant : PlantData) (life : Life) (t : ℤ) (changes : List Change) → IsAfter plant acting.entry life t →
+        ImageAgrees plant image.old (settled changes) → MemoHolds plant image.old acting.entry.context.instance memo.old →
+        HasActed plant changes image.new result
+        (after_actions plant acting.entry.context.instance life t 0 acting.entry.context.tables.now.actions changes) }
+    ensures memo { (plant : PlantData) (life : Life) (t : ℤ) (changes : List Change) → IsAfter plant acting.entry life t →
+        ImageAgrees plant image.old (settled changes) → MemoHolds plant image.old acting.entry.context.instance memo.old →
+        MemoHolds plant image.new acting.entry.context.instance memo.new }
+    ensures others { KeepsMemos image.old image.new }
+    ensures ticks { Within (actions_work acting.entry.context.chart.now acting.entry.context.tables.now.actions + variable_total image.old)
         ticks.old ticks.new }
 {
+    let Acting { context, state, .. } = acting;
     let count = context.tables.actions();
     let first = count - context.chart.actions.as_slice().len();
     let from = first_executed(&state.controls, first, ticks);
     let is_body = from < count;
     begin_if(image, is_body);
-    let q = state.controls.q_flags();
-    image.assign_outputs(context.instance, context.tables, q, ticks);
+    image.assign_outputs(context.instance, acting.given(), memo, ticks);
     if !is_body {
         return Ok(());
     }
-    let acting = Acting {
-        context,
-        state,
-        steps: state.readings(t),
-    };
     let answer = act(acting, image, from, ticks);
     close(image, answer.is_ok(), ticks);
     answer

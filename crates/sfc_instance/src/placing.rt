@@ -6,7 +6,7 @@ ghost use Rattle.sfc_expr.specs.Nodes.{body_nodes};
 ghost use Rattle.sfc_base.specs.Ticks.{Within};
 ghost use Rattle.sfc_plant.specs.Plants.{PlantData};
 ghost use Rattle.sfc_image.specs.Changes.{Change, settled, trying};
-ghost use Rattle.sfc_image.specs.Agreement.{ImageAgrees, IsAsLarge, instance_total, variable_total, is_open};
+ghost use Rattle.sfc_image.specs.Agreement.{ImageAgrees, IsAsLarge, MemoHolds, KeepsMemos, instance_total, variable_total, is_open};
 ghost use Rattle.sfc_instance.specs.Life.{Life};
 ghost use Rattle.sfc_tables.specs.Tables.{tables_of};
 ghost use Rattle.sfc_instance.specs.Contexts.{IsContextOf};
@@ -18,10 +18,10 @@ ghost use Rattle.sfc_instance.specs.Private.Acting.{IsAfter, Acts, place_in, pla
 use crate::acting::{Acting, body_of};
 use crate::fault_place::FaultPlace;
 use crate::program_context::ProgramContext;
-use crate::state::State;
 use sfc_base::ids::{ActionId, ActionNumber};
 use sfc_base::ticks::Ticks;
 use sfc_image::image::Image;
+use sfc_image::output_memo::OutputMemo;
 
 // The statement of this declared action that has a fault, if one has; the body is executed where A is 1, and sees its Q.
 fn find_in(
@@ -35,6 +35,7 @@ fn find_in(
     requires action { action.0 < length acting.context.tables.now.actions }
     requires instance { acting.context.instance.0 < instance_total image.old }
     ensures large { IsAsLarge image.old image.new }
+    ensures memos { KeepsMemos image.old image.new }
     ensures open { is_open image.new ≡ is_open image.old }
     ensures agrees { (plant : PlantData) (life : Life) (t : ℤ) (committed tried : List Change) →
         IsAfter plant acting.entry life t → ImageAgrees plant image.old (trying committed tried) →
@@ -71,6 +72,7 @@ fn find_from(
     requires instance { acting.context.instance.0 < instance_total image.old }
     requires low { length acting.context.tables.now.actions ≤ from + length acting.context.chart.now.actions }
     ensures large { IsAsLarge image.old image.new }
+    ensures memos { KeepsMemos image.old image.new }
     ensures open { is_open image.new ≡ is_open image.old }
     ensures agrees { (plant : PlantData) (life : Life) (t : ℤ) (committed tried : List Change) → IsAfter plant acting.entry life t →
         ImageAgrees plant image.old (trying committed tried) → Acts plant committed image.new (place_in result)
@@ -91,44 +93,40 @@ fn find_from(
     None
 }
 
-/// Where the fault of a body is in what the actions do after a scan at t that left these steps and this action control; none where no
-/// body has one. What they do is done once more and given up, so the variables are as before.
+/// Where the fault of a body is in what the actions do after a scan that left these steps and this action control; none where no body has
+/// one. What they do is done once more and given up, so the variables are as before.
 #[cold]
 #[inline(never)]
 pub fn find_place(
-    context: ProgramContext<'_>,
-    state: &State,
+    acting: Acting<'_>,
     image: &mut Image,
-    t: i64,
+    memo: &mut OutputMemo,
     ticks: &mut Ticks,
 ) -> Option<FaultPlace>
-    requires tables { context.tables.now ≡ tables_of context.chart.now }
-    requires state { IsStateFor context.tables.now state.now }
-    requires instance { context.instance.0 < instance_total image.old }
+    requires tables { acting.context.tables.now ≡ tables_of acting.context.chart.now }
+    requires state { IsStateFor acting.context.tables.now acting.state.now }
+    requires instance { acting.context.instance.0 < instance_total image.old }
     requires closed { is_open image.old ≡ false }
-    requires low { pos 0 ≤ℤ t }
-    requires high { t ≤ℤ pos (2 ^ 62) }
     ensures large { IsAsLarge image.old image.new }
     ensures closed { is_open image.new ≡ false }
-    ensures unchanged { (plant : PlantData) (life : Life) (changes : List Change) → IsContextOf plant context.entry →
-        StateAgrees context.entry.tables.now state.now life → ImageAgrees plant image.old (settled changes) →
+    ensures unchanged { (plant : PlantData) (life : Life) (t : ℤ) (changes : List Change) → IsAfter plant acting.entry life t →
+        ImageAgrees plant image.old (settled changes) → MemoHolds plant image.old acting.entry.context.instance memo.old →
         ImageAgrees plant image.new (settled changes) }
-    ensures place { (plant : PlantData) (life : Life) (changes : List Change) → IsContextOf plant context.entry →
-        StateAgrees context.entry.tables.now state.now life → ImageAgrees plant image.old (settled changes) →
-        result ≡ place_of (after_actions plant context.entry.instance life t 0 context.entry.tables.now.actions changes) }
-    ensures ticks { Within (actions_work context.entry.chart.now context.entry.tables.now.actions + variable_total image.old)
+    ensures memo { (plant : PlantData) (life : Life) (t : ℤ) (changes : List Change) → IsAfter plant acting.entry life t →
+        ImageAgrees plant image.old (settled changes) → MemoHolds plant image.old acting.entry.context.instance memo.old →
+        MemoHolds plant image.new acting.entry.context.instance memo.new }
+    ensures others { KeepsMemos image.old image.new }
+    ensures place { (plant : PlantData) (life : Life) (t : ℤ) (changes : List Change) → IsAfter plant acting.entry life t →
+        ImageAgrees plant image.old (settled changes) → MemoHolds plant image.old acting.entry.context.instance memo.old →
+        result ≡ place_of (after_actions plant acting.entry.context.instance life t 0 acting.entry.context.tables.now.actions changes) }
+    ensures ticks { Within (actions_work acting.entry.context.chart.now acting.entry.context.tables.now.actions + variable_total image.old)
         ticks.old ticks.new }
 {
+    let context = acting.context;
     let count = context.tables.actions();
     let first = count - context.chart.actions.as_slice().len();
     image.begin();
-    let q = state.controls.q_flags();
-    image.assign_outputs(context.instance, context.tables, q, ticks);
-    let acting = Acting {
-        context,
-        state,
-        steps: state.readings(t),
-    };
+    image.assign_outputs(context.instance, acting.given(), memo, ticks);
     let place = find_from(acting, image, first, ticks);
     image.undo(ticks);
     place

@@ -47,9 +47,11 @@ impl Program {
     ghost use Rattle.sfc_flags.specs.Flags.{flag};
     ghost use Rattle.sfc_tables.specs.Tables.{Tabled, tables_of};
     ghost use Rattle.sfc_plant.specs.Plants.{PlantData};
-    ghost use Rattle.sfc_image.specs.Changes.{Change, settled};
-    ghost use Rattle.sfc_image.specs.Agreement.{ImageAgrees, IsAsLarge, instance_total, variable_total, is_open};
+    ghost use Rattle.sfc_image.specs.Changes.{Change, Changes, settled};
+    ghost use Rattle.sfc_image.specs.Agreement.{ImageAgrees, IsAsLarge, KeepsMemos, instance_total, variable_total, is_open};
     ghost use Rattle.sfc_image.specs.StepTimes.{times_of};
+    ghost use Rattle.sfc_image.specs.declared.image.Image.{Image};
+    ghost use Rattle.sfc_base.specs.declared.ids.ProgId.{ProgId};
     ghost use Rattle.sfc_evolve.specs.Evolution.{active_steps};
     ghost use Rattle.sfc_instance.specs.Life.{Life, InstanceState, evolution_rows, latest_instant, fresh};
     ghost use Rattle.sfc_instance.specs.Contexts.{IsContextOf};
@@ -58,7 +60,7 @@ impl Program {
     ghost use Rattle.sfc_instance.specs.declared.scan_end.ScanEnd.TheVariants.{Faulted};
     ghost use Rattle.sfc_instance.specs.Work.{copy_work, good_work, scan_work};
     ghost use Rattle.sfc_instance.specs.Answers as answers;
-    ghost use Rattle.sfc_instance.specs.Agreement.{IsFor, ProgramAgrees, step_total, transition_total, action_total, shown_elapsed, elapsed_at};
+    ghost use Rattle.sfc_instance.specs.Agreement.{IsFor, ProgramAgrees, ProgramHolds, step_total, transition_total, action_total, shown_elapsed, elapsed_at};
 
     /// Before the first scan of a life. All memory that scans need is taken here; the one error is that memory was
     /// refused.
@@ -66,6 +68,8 @@ impl Program {
         requires { IsSharedOf tables.now shared.now }
         ensures sizes { IfOk result (λ program. IsFor tables.now program) }
         ensures agrees { IfOk result (λ program. ProgramAgrees tables.now program fresh) }
+        ensures holds { IfOk result (λ program. (plant : PlantData) (image : Image) (changes : Changes) (p : ProgId) →
+            ImageAgrees plant image changes → ProgramHolds plant image p program) }
     {
         Ok(Program {
             run: ScanRun::new(alloc, tables, shared)?,
@@ -95,14 +99,21 @@ impl Program {
         ensures sizes { IsFor context.entry.tables.now self.new }
         ensures large { IsAsLarge image.old image.new }
         ensures closed { is_open image.new ≡ false }
+        ensures holds { (plant : PlantData) (instance_state : InstanceState) (changes : List Change) → IsContextOf plant context.entry →
+            ProgramAgrees context.entry.tables.now self.old instance_state → ImageAgrees plant image.old (settled changes) →
+            ProgramHolds plant image.old context.entry.instance self.old → ProgramHolds plant image.new context.entry.instance self.new }
+        ensures others { KeepsMemos image.old image.new }
         ensures scan_end { (plant : PlantData) (instance_state : InstanceState) (changes : List Change) → IsContextOf plant context.entry →
             ProgramAgrees context.entry.tables.now self.old instance_state → ImageAgrees plant image.old (settled changes) →
+            ProgramHolds plant image.old context.entry.instance self.old →
             result ≡ (after_scan plant context.entry.instance instance_state changes t).scan_end }
         ensures program { (plant : PlantData) (instance_state : InstanceState) (changes : List Change) → IsContextOf plant context.entry →
             ProgramAgrees context.entry.tables.now self.old instance_state → ImageAgrees plant image.old (settled changes) →
+            ProgramHolds plant image.old context.entry.instance self.old →
             ProgramAgrees context.entry.tables.now self.new (after_scan plant context.entry.instance instance_state changes t).instance_state }
         ensures image { (plant : PlantData) (instance_state : InstanceState) (changes : List Change) → IsContextOf plant context.entry →
             ProgramAgrees context.entry.tables.now self.old instance_state → ImageAgrees plant image.old (settled changes) →
+            ProgramHolds plant image.old context.entry.instance self.old →
             ImageAgrees plant image.new (settled (after_scan plant context.entry.instance instance_state changes t).changes) }
         ensures ticks { Within (scan_work context.entry.tables.now context.entry.chart.now (variable_total image.old)) ticks.old ticks.new }
         ensures good { result ≢ Faulted →
@@ -131,6 +142,7 @@ impl Program {
         ensures sizes { IsFor tables.now self.new }
         ensures agrees { (instance_state : InstanceState) → ProgramAgrees tables.now self.old instance_state →
             ProgramAgrees tables.now self.new fresh }
+        ensures holds { (plant : PlantData) (image : Image) (p : ProgId) → ProgramHolds plant image p self.old → ProgramHolds plant image p self.new }
         ensures ticks { Within (copy_work tables.now) ticks.old ticks.new }
     {
         self.run.now.reset(tables, ticks);
@@ -146,6 +158,7 @@ impl Program {
         ensures sizes { IsFor tables.now self.new }
         ensures agrees { (instance_state : InstanceState) → ProgramAgrees tables.now other.now instance_state →
             ProgramAgrees tables.now self.new instance_state }
+        ensures holds { (plant : PlantData) (image : Image) (p : ProgId) → ProgramHolds plant image p self.old → ProgramHolds plant image p self.new }
     {
         let mut ticks = Ticks::new();
         self.run.now.copy_from(tables, &other.run.now, &mut ticks);

@@ -1,16 +1,18 @@
 //! A scan of a program instance: what it works on.
 
-use crate::acting::act_or_undo;
+use crate::acting::{Acting, act_or_undo};
 use crate::fault_place::FaultPlace;
 use crate::placing::find_place;
 use crate::scan_buffers::ScanBuffers;
 use crate::state::State;
+use sfc_image::output_memo::OutputMemo;
 
-/// The steps and the action control after the latest scan, the buffers of a scan, and where the latest fault is, of no use where none
-/// stands.
+/// The steps and the action control after the latest scan, the buffers of a scan, what was last given to the outputs, and where the latest
+/// fault is, of no use where none stands.
 pub struct ScanRun {
     pub now: State,
     pub buffers: ScanBuffers,
+    pub memo: OutputMemo,
     pub place: Option<FaultPlace>,
 }
 
@@ -20,6 +22,7 @@ impl Drop for ScanRun {
         let ScanRun {
             now: _,
             buffers: _,
+            memo: _,
             place: _,
         } = self;
     }
@@ -30,7 +33,7 @@ ghost use Rattle.sfc_base.specs.Ticks.{Within};
 ghost use Rattle.sfc_tables.specs.Tables.{tables_of};
 ghost use Rattle.sfc_plant.specs.Plants.{PlantData};
 ghost use Rattle.sfc_image.specs.Changes.{Change, settled};
-ghost use Rattle.sfc_image.specs.Agreement.{ImageAgrees, IsAsLarge, instance_total, variable_total, is_open};
+ghost use Rattle.sfc_image.specs.Agreement.{ImageAgrees, IsAsLarge, MemoHolds, KeepsMemos, instance_total, variable_total, is_open};
 ghost use Rattle.sfc_instance.specs.Life.{Life};
 ghost use Rattle.sfc_instance.specs.Contexts.{IsContextOf};
 ghost use Rattle.sfc_instance.specs.Sharing.{IsSharedOf};
@@ -60,6 +63,7 @@ impl ScanRun {
         Ok(ScanRun {
             now: State::new(alloc, tables, &shared.controls)?,
             buffers: ScanBuffers::new(alloc, tables, shared)?,
+            memo: OutputMemo::new(alloc, tables.actions())?,
             place: None,
         })
     }
@@ -83,11 +87,16 @@ impl ScanRun {
         ensures sizes { IsScanRunFor context.entry.tables.now self.new }
         ensures large { IsAsLarge image.old image.new }
         ensures closed { is_open image.new ≡ false }
+        ensures memo { (plant : PlantData) (life : Life) (changes : List Change) → IsContextOf plant context.entry →
+            StateAgrees context.entry.tables.now self.old.now life → ImageAgrees plant image.old (settled changes) →
+            MemoHolds plant image.old context.entry.instance self.old.memo → MemoHolds plant image.new context.entry.instance self.new.memo }
+        ensures others { KeepsMemos image.old image.new }
         ensures now { OnOk result (self.new.now ≡ self.old.now) }
         ensures undone { OnErr result ((life : Life) → StateNoted context.entry.tables.now self.old.now life →
             StateAgrees context.entry.tables.now self.new.now life) }
         ensures agrees { (plant : PlantData) (life : Life) (changes : List Change) → IsContextOf plant context.entry →
             StateAgrees context.entry.tables.now self.old.now life → ImageAgrees plant image.old (settled changes) →
+            MemoHolds plant image.old context.entry.instance self.old.memo →
             HasActedSo plant changes image.new result self.new.place
             (after_actions plant context.entry.instance life t 0 context.entry.tables.now.actions changes) }
         ensures ticks { Within (2 * acting_work context.entry.tables.now context.entry.chart.now (variable_total image.old)
@@ -95,9 +104,14 @@ impl ScanRun {
         ensures good { OnOk result
             (Within (acting_work context.entry.tables.now context.entry.chart.now (variable_total image.old)) ticks.old ticks.new) }
     {
-        let answer = act_or_undo(context, &self.now, image, t, ticks);
+        let acting = Acting {
+            context,
+            state: &self.now,
+            steps: self.now.readings(t),
+        };
+        let answer = act_or_undo(acting, image, &mut self.memo, ticks);
         if answer.is_err() {
-            self.place = find_place(context, &self.now, image, t, ticks);
+            self.place = find_place(acting, image, &mut self.memo, ticks);
             self.now.undo(context.tables, ticks);
         }
         answer
@@ -122,8 +136,13 @@ impl ScanRun {
         ensures sizes { IsScanRunFor context.entry.tables.now self.new }
         ensures large { IsAsLarge image.old image.new }
         ensures closed { is_open image.new ≡ false }
+        ensures memo { (plant : PlantData) (life : Life) (changes : List Change) → IsContextOf plant context.entry →
+            StateAgrees context.entry.tables.now self.old.now life → ImageAgrees plant image.old (settled changes) →
+            MemoHolds plant image.old context.entry.instance self.old.memo → MemoHolds plant image.new context.entry.instance self.new.memo }
+        ensures others { KeepsMemos image.old image.new }
         ensures agrees { (plant : PlantData) (life : Life) (changes : List Change) → IsContextOf plant context.entry →
             StateAgrees context.entry.tables.now self.old.now life → ImageAgrees plant image.old (settled changes) →
+            MemoHolds plant image.old context.entry.instance self.old.memo →
             HasScanned plant context.entry.tables.now life changes (row_in self.old.buffers t) self.new.now image.new
             result self.new.place
             (with_row plant context.entry.instance life changes t (row_in self.old.buffers t)) }
@@ -163,8 +182,13 @@ impl ScanRun {
         ensures sizes { IsScanRunFor context.entry.tables.now self.new }
         ensures large { IsAsLarge image.old image.new }
         ensures closed { is_open image.new ≡ false }
+        ensures memo { (plant : PlantData) (life : Life) (changes : List Change) → IsContextOf plant context.entry →
+            StateAgrees context.entry.tables.now self.old.now life → ImageAgrees plant image.old (settled changes) →
+            MemoHolds plant image.old context.entry.instance self.old.memo → MemoHolds plant image.new context.entry.instance self.new.memo }
+        ensures others { KeepsMemos image.old image.new }
         ensures agrees { (plant : PlantData) (life : Life) (changes : List Change) → IsContextOf plant context.entry →
             StateAgrees context.entry.tables.now self.old.now life → ImageAgrees plant image.old (settled changes) →
+            MemoHolds plant image.old context.entry.instance self.old.memo →
             HasScanned plant context.entry.tables.now life changes (next_row plant context.entry.instance life changes t)
             self.new.now image.new result self.new.place (attempt plant context.entry.instance life changes t) }
         ensures ticks { Within (scan_work context.entry.tables.now context.entry.chart.now (variable_total image.old)) ticks.old ticks.new }

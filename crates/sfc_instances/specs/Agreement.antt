@@ -1,5 +1,5 @@
 -- What `Instances` agree with.
-use Rattle.std.specs.Prelude.{ℕ, ◌≡◌, ◌<◌, ◌×◌, false, List, length, map, slice_index_or}
+use Rattle.std.specs.Prelude.{ℕ, ◌≡◌, ◌<◌, false, List, length, map, slice_index_or}
 use Rattle.sfc_instance.specs.sfc_tables.Tables.{Tabled, tables_of}
 use Rattle.sfc_instance.specs.Sharing.{IsSharedOf}
 use Rattle.sfc_instance.specs.declared.shared.Shared.{Shared}
@@ -8,6 +8,7 @@ use Rattle.sfc_plant.specs.Plants.{PlantData}
 use Rattle.sfc_instance.specs.sfc_image.Changes.{settled}
 use Rattle.sfc_instance.specs.sfc_image.Values.{variable_count}
 use Rattle.sfc_instance.specs.sfc_image.Agreement as image
+use Rattle.sfc_instance.specs.sfc_image.declared.image.Image.{Image}
 use Rattle.sfc_instance.specs.declared.program.Program.{Program}
 use Rattle.sfc_plant.specs.Finding.{chart_of}
 use Rattle.sfc_instance.specs.Agreement as program
@@ -48,8 +49,14 @@ ProgramsAgree plant programs state =
     (k : ℕ) (d : Program) → k < length programs →
     program.ProgramAgrees (tables_of (chart_of plant (record { 0 = k }))) (slice_index_or programs k d) (state.instance_state k)
 
+-- what each last gave its outputs is so in the image
+abbrev pub ProgramsHold : PlantData → Image → List Program → Type 0
+ProgramsHold plant image programs =
+    (k : ℕ) (d : Program) → k < length programs → program.ProgramHolds plant image (record { 0 = k }) (slice_index_or programs k d)
+
 pub record InstancesKeep (plant : PlantData) (instances : Instances) (state : PlantState) : Type 0 where
   pub image : image.ImageAgrees plant instances.image (settled state.changes)
+  pub outputs : ProgramsHold plant instances.image instances.programs.items
   pub programs : ProgramsAgree plant instances.programs.items state
 
 -- all its answers are those of the state

@@ -154,7 +154,7 @@ impl Instances {
         let tables = build_tables(alloc, plant.types())?;
         let shared = build_shared(alloc, &tables)?;
         let programs = open_programs(alloc, &tables, &shared, plant.instances())?;
-        let image = Image::new(alloc, plant, &tables)?;
+        let image = Image::new(alloc, plant)?;
         Ok(Instances {
             tables,
             shared,

@@ -1,6 +1,6 @@
 -- What was last given to the outputs of an instance, and how long that holds.
-use Rattle.std.specs.Prelude.{ℕ, ◌≡◌, ◌<◌, ◌≤◌, Bool, true, false, List, [], length, Option, Some, None}
-use Rattle.std.specs.Prelude.{slice_get, slice_set, slice_index_or}
+use Rattle.std.specs.Prelude.{ℕ, ◌≡◌, ◌<◌, ◌≤◌, Bool, true, false, List, Option, Some, None}
+use Rattle.std.specs.Prelude.{slice_get, slice_set}
 use Rattle.sfc_base.specs.declared.value.Value.TheVariants as value
 use Rattle.sfc_base.specs.declared.references.Variable.{Variable}
 use Rattle.sfc_flags.specs.Flags.{flag}
@@ -15,9 +15,6 @@ use Rattle.sfc_image.specs.declared.slot.Slot.{Slot}
 use Rattle.sfc_image.specs.declared.slot.Locals.{Locals}
 use Rattle.sfc_image.specs.declared.output_memo.OutputMemo.{OutputMemo}
 use Rattle.sfc_image.specs.Private.Keeping.{slot_at, stored_where}
-
-abbrev pub memo_at : List OutputMemo → ℕ → OutputMemo
-memo_at memos k = slice_index_or memos k (record { q = []; generation = 0 })
 
 -- the last generation, in which nothing that was given holds
 abbrev pub last_generation : ℕ
@@ -43,13 +40,11 @@ abbrev pub HasQ : PlantData → ProgId → List Slot → ℕ → Bool → Type 0
 HasQ plant p slots a q = (v : Variable) (i : ℕ) → slice_get (actions_of (chart_of plant p)) a ≡ Some (Boolean v)
     → number_of plant p v ≡ Some i → IsAssigned (slot_at slots i) q
 
--- what was given to an instance in this generation holds; in the last one nothing is
-pub record MemosHold (plant : PlantData) (slots : List Slot) (memos : List OutputMemo) (generation : ℕ) : Type 0 where
-  pub begun : 0 < generation
-  pub past : (k : ℕ) → k < length memos → (memo_at memos k).generation ≤ generation
-  pub early : (k : ℕ) → k < length memos → (memo_at memos k).generation < last_generation
-  pub each : (p : ProgId) → p.0 < length memos → (memo_at memos p.0).generation ≡ generation → (a : ℕ)
-      → HasQ plant p slots a (flag (memo_at memos p.0).q a)
+-- what the memo has was given to this instance, and holds in its generation; in the last one nothing does
+pub record HoldsMemo (plant : PlantData) (slots : List Slot) (generation : ℕ) (p : ProgId) (memo : OutputMemo) : Type 0 where
+  pub past : memo.generation ≤ generation
+  pub early : memo.generation < last_generation
+  pub each : memo.generation ≡ generation → (a : ℕ) → HasQ plant p slots a (flag memo.q a)
 
 -- a slot that keeps its value, and stays an output if it is one
 pub record Stays (old new : Slot) : Type 0 where
