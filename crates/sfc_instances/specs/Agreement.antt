@@ -28,15 +28,19 @@ AreFor plant programs =
     (k : ℕ) (d : Program) → k < length programs →
     program.IsFor (tables_of (chart_of plant (record { 0 = k }))) (slice_index_or programs k d)
 
--- each is what the instances of a chart with these tables share
-abbrev pub AreShared : List Tabled → List Shared → Type 0
-AreShared tables shared = (length shared ≡ length tables)
-    × ((k : ℕ) (t : Tabled) (d : Shared) → k < length tables → IsSharedOf (slice_index_or tables k t) (slice_index_or shared k d))
+-- each is what the instances of a type share
+abbrev pub AreShared : List ProgramType → List Shared → Type 0
+AreShared types shared = (length shared ≡ length types)
+    × ((k : ℕ) (p : ProgramType) (d : Shared) → k < length types →
+    IsSharedOf (tables_of (slice_index_or types k p).chart) (slice_index_or shared k d))
 
--- it has the tables, the variables and the programs of the plant
+-- the tables among what they share
+abbrev pub tables_in : List Shared → List Tabled
+tables_in shared = map (λ (s : Shared). s.tables) shared
+
+-- it has what the types share, the variables and the programs of the plant
 pub record AreInstancesOf (plant : PlantData) (running : Instances) : Type 0 where
-  pub tables : running.tables.items ≡ map (λ (p : ProgramType). tables_of p.chart) plant.types
-  pub shared : AreShared running.tables.items running.shared.items
+  pub shared : AreShared plant.types running.shared.items
   pub variables : variable_total running ≡ variable_count plant
   pub locals : image.instance_total running.image ≡ length plant.instances
   pub closed : image.is_open running.image ≡ false

@@ -5,11 +5,10 @@ use crate::sfc_tables::tables::Tables;
 use sfc_base::limits::VARIABLES;
 use sfc_instance::program::Program;
 
-/// The tables of each program type and what its instances share, the variables, and each program instance.
+/// What the instances of each program type share, the variables, and each program instance.
 ///
 /// A `plant` that is passed is the one that the instances were made of.
 pub struct Instances {
-    tables: Vec<Tables>,
     shared: Vec<Shared>,
     image: Image,
     programs: Vec<Program>,
@@ -19,7 +18,6 @@ pub struct Instances {
 impl Drop for Instances {
     fn drop(self) {
         let Instances {
-            tables: _,
             shared: _,
             image: _,
             programs: _,
@@ -37,13 +35,14 @@ ghost use Rattle.sfc_instance.specs.sfc_image.Agreement.{ImageAgrees, variable_t
 ghost use Rattle.sfc_instance.specs.sfc_image.Changes.{settled};
 ghost use Rattle.sfc_instance.specs.sfc_image.Answers as answers;
 ghost use Rattle.sfc_plant.specs.Finding.{chart_of};
+ghost use Rattle.sfc_instance.specs.sfc_image.declared.image.Image.{Image};
 ghost use Rattle.sfc_instance.specs.Contexts.{IsContextOf};
 ghost use Rattle.sfc_instance.specs.Views.{plant_in, instance_in, Shows};
 ghost use Rattle.sfc_instances.specs.PlantState.{PlantState, opened, with_change, after_program, after_task, after_reset, program_scan};
 ghost use Rattle.sfc_instances.specs.Ends.{AreBits};
 ghost use Rattle.sfc_instances.specs.Singles.{single_in, singles_in};
 ghost use Rattle.sfc_instances.specs.Work.{program_work, task_work, reset_work};
-ghost use Rattle.sfc_instances.specs.Agreement.{AreInstancesOf, InstancesAgree, AreFor, AreShared, ProgramsAgree, variable_total, instance_total};
+ghost use Rattle.sfc_instances.specs.Agreement.{AreInstancesOf, InstancesAgree, AreFor, AreShared, ProgramsAgree, ProgramsHold, tables_in, variable_total, instance_total};
 ghost use Rattle.sfc_instances.specs.Private.Building.{AreOpened};
 
 use crate::bits::Bits;
@@ -61,25 +60,15 @@ use sfc_plant::plant::Plant;
 use sfc_plant::program_type::ProgramType;
 use std::alloc::{AllocError, Global};
 
-// The tables of the chart of each type.
-fn build_tables(alloc: Global, types: &[ProgramType]) -> Result<Vec<Tables>, AllocError>
+// What the instances of each type share.
+fn build_shared(alloc: Global, types: &[ProgramType]) -> Result<Vec<Shared>, AllocError>
     requires { (globals : ℕ) × All (IsProgram globals) types.now }
-    ensures { IfOk result (λ tables. tables.items ≡ map (λ p. tables_of p.chart) types.now) }
-{
-    let mut tables = Vec::new(alloc);
-    for k in 0..types.len() {
-        tables.push(Tables::build(alloc, &types[k].chart)?)?;
-    }
-    Ok(tables)
-}
-
-// What the instances of each type share, where these are the tables of their charts.
-fn build_shared(alloc: Global, tables: &[Tables]) -> Result<Vec<Shared>, AllocError>
-    ensures { IfOk result (λ shared. AreShared tables.now shared.items) }
+    ensures { IfOk result (λ shared. AreShared types.now shared.items) }
 {
     let mut shared = Vec::new(alloc);
-    for k in 0..tables.len() {
-        shared.push(Shared::new(alloc, &tables[k])?)?;
+    for k in 0..types.len() {
+        let tables = Tables::build(alloc, &types[k].chart)?;
+        shared.push(Shared::new(alloc, tables)?)?;
     }
     Ok(shared)
 }
@@ -87,48 +76,41 @@ fn build_shared(alloc: Global, tables: &[Tables]) -> Result<Vec<Shared>, AllocEr
 // A program for each instance.
 fn open_programs(
     alloc: Global,
-    tables: &[Tables],
     shared: &[Shared],
     instances: &[Instance],
 ) -> Result<Vec<Program>, AllocError>
-    requires shared { AreShared tables.now shared.now }
-    requires types { All (λ instance. instance.program.0 < length tables.now) instances.now }
+    requires { All (λ instance. instance.program.0 < length shared.now) instances.now }
     ensures len { IfOk result (λ programs. length programs.items ≡ length instances.now) }
-    ensures each { IfOk result (λ programs. AreOpened tables.now instances.now programs.items) }
+    ensures each { IfOk result (λ programs. AreOpened (tables_in shared.now) instances.now programs.items) }
 {
     let mut programs = Vec::new(alloc);
     for k in 0..instances.len() {
-        let program = instances[k].program.0;
-        programs.push(Program::new(alloc, &tables[program], &shared[program])?)?;
+        let shared = &shared[instances[k].program.0];
+        programs.push(Program::new(alloc, &shared.tables, shared)?)?;
     }
     Ok(programs)
 }
 
-// What a program instance runs in, where these are the tables of each program type and what its instances share.
-fn context_of<'a>(
-    tables: &'a [Tables],
-    shared: &'a [Shared],
-    plant: &'a Plant,
-    instance: ProgId,
-) -> ProgramContext<'a>
-    requires shared { AreShared tables.now shared.now }
-    requires tables { tables.now ≡ map (λ p. tables_of p.chart) plant.now.types }
+// What a program instance runs in, where this is what the instances of each program type share.
+fn context_of<'a>(shared: &'a [Shared], plant: &'a Plant, instance: ProgId) -> ProgramContext<'a>
+    requires shared { AreShared plant.now.types shared.now }
     requires instance { instance.0 < length plant.now.instances }
     ensures context { IsContextOf plant.now result }
     ensures instance { result.instance ≡ instance }
 {
     let program = plant.instances()[instance.0 as usize].program.0;
+    let shared = &shared[program];
     ProgramContext {
-        tables: &tables[program],
-        shared: &shared[program],
+        tables: &shared.tables,
+        shared,
         chart: &plant.types()[program].chart,
         instance,
     }
 }
 
-// Each takes over what the other of its place keeps. `tables` are those of each program type.
-fn copy_programs(programs: &mut [Program], tables: &[Tables], plant: &Plant, from: &[Program])
-    requires tables { tables.now ≡ map (λ p. tables_of p.chart) plant.now.types }
+// Each takes over what the other of its place keeps.
+fn copy_programs(programs: &mut [Program], shared: &[Shared], plant: &Plant, from: &[Program])
+    requires shared { AreShared plant.now.types shared.now }
     requires len { length programs.old ≡ length plant.now.instances }
     requires from_len { length from.now ≡ length plant.now.instances }
     requires sizes { AreFor plant.now programs.old }
@@ -136,10 +118,11 @@ fn copy_programs(programs: &mut [Program], tables: &[Tables], plant: &Plant, fro
     ensures len { length programs.new ≡ length programs.old }
     ensures sizes { AreFor plant.now programs.new }
     ensures agrees { (state : PlantState) → ProgramsAgree plant.now from.now state → ProgramsAgree plant.now programs.new state }
+    ensures holds { (image : Image) → ProgramsHold plant.now image programs.old → ProgramsHold plant.now image programs.new }
 {
     for k in 0..plant.instances().len() {
         let program = plant.instances()[k].program.0;
-        programs[k].copy_from(&tables[program], &from[k]);
+        programs[k].copy_from(&shared[program].tables, &from[k]);
     }
 }
 
@@ -151,12 +134,10 @@ impl Instances {
         ensures sizes { IfOk result (λ instances. AreInstancesOf plant.now instances) }
         ensures agrees { IfOk result (λ instances. InstancesAgree plant.now instances opened) }
     {
-        let tables = build_tables(alloc, plant.types())?;
-        let shared = build_shared(alloc, &tables)?;
-        let programs = open_programs(alloc, &tables, &shared, plant.instances())?;
+        let shared = build_shared(alloc, plant.types())?;
+        let programs = open_programs(alloc, &shared, plant.instances())?;
         let image = Image::new(alloc, plant)?;
         Ok(Instances {
-            tables,
             shared,
             image,
             programs,
@@ -172,7 +153,7 @@ impl Instances {
     {
         let mut ticks = Ticks::new();
         self.image.copy_from(&other.image, &mut ticks);
-        copy_programs(&mut self.programs, &self.tables, plant, &other.programs);
+        copy_programs(&mut self.programs, &self.shared, plant, &other.programs);
     }
 
     /// The variables.
@@ -195,7 +176,7 @@ impl Instances {
         ensures shows { (state : PlantState) → InstancesAgree plant.now self.now state →
             Shows result state.changes (state.instance_state instance.0) }
     {
-        let context = context_of(&self.tables, &self.shared, plant, instance);
+        let context = context_of(&self.shared, plant, instance);
         let program = &self.programs[instance.0 as usize];
         ProgramView::new(plant, context.tables, program, &self.image, instance)
     }
@@ -306,7 +287,7 @@ impl Instances {
             (after_program instance (program_scan plant.now t instance.0 state) state) }
         ensures ticks { Within (program_work plant.now instance) ticks.old ticks.new }
     {
-        let context = context_of(&self.tables, &self.shared, plant, instance);
+        let context = context_of(&self.shared, plant, instance);
         self.programs[instance.0 as usize].scan(context, &mut self.image, t, ticks)
     }
 
@@ -348,7 +329,7 @@ impl Instances {
     {
         let k = instance.0 as usize;
         let program = plant.instances()[k].program.0;
-        self.programs[k].reset(&self.tables[program], ticks);
+        self.programs[k].reset(&self.shared[program].tables, ticks);
         self.image.reset(instance, ticks);
     }
 }
