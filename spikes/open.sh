@@ -1,0 +1,1 @@
+for n in open1 open64; do d=/work/mbench/$n; a=$(nice -n 5 valgrind --tool=callgrind --callgrind-out-file=/dev/null /work/bins/$1 replay $d/chart $d/empty 2>&1 >/dev/null | awk '/Collected :/ {print $4}'); b=$(nice -n 5 valgrind --tool=callgrind --callgrind-out-file=/dev/null /work/bins/$1 check $d/chart 2>&1 >/dev/null | awk '/Collected :/ {print $4}'); echo $n $((a-b)); done
