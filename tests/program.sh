@@ -923,16 +923,19 @@ for size in 1023 x ''; do usage "--record-size '$size'" "error:" run --record "$
 asked() {
   for line in "$@"; do sleep 0.25; echo "$line"; done | "$program" run --trace 0 "$examples/pump.chart" >"$work/out" 2>"$work/err"
   status=${PIPESTATUS[1]}
-  sed -E 's/T#[^ ,]+/../g; s/ [0-9]+ steps/ .. steps/; s/ cleared .*//; s/^[0-9]+ \.\./.. ../; s/^audit ok .*/audit ok/' "$work/out" >"$work/answers"
+  sed -E 's/T#[^ ,]+/../g; s/ [0-9]+ steps/ .. steps/; s/ cleared .*//; s/^[0-9]+ \.\./.. ../; s/ overruns [0-9]+/ overruns ../; s/^audit ok .*/audit ok/' "$work/out" >"$work/answers"
 }
 asked show 'INPUT Start TRUE' '; wait' SHOW ' image pump' 'IMAGE Pupm' STOP 'Show' 'TRACE 1' 'why Pump1 1' 'SHOWN'
 ends 0 && says "script line 11" && [ "$(cat "$work/answers")" = "instant .. run .. running
+task Main next .. overruns ..
   Pump1 .. steps Idle=..
 instant .. run .. running
+task Main next .. overruns ..
   Pump1 .. steps Pumping=..
 image Pump TRUE
 ; no variable Pupm
 instant .. run .. halted
+task Main next .. overruns ..
   Pump1 .. steps Pumping=..
 .. .. STOP
 Pump1 TRANSITION 1 not enabled
